@@ -1,0 +1,65 @@
+-- The codes and their order: the section "Codes".
+use Prim.Native.Nat.{ℕ}
+use mathlib.Core.Bool.{Bool, true, false, cond}
+use mathlib.Core.List.{List, [], _∷_}
+use lib.Dec.{ltb}
+use Rattle.grid.specs.Grid.{one, H-units, T-units, depths, N-units}
+
+-- what a code says, in the table's order
+pub data Code : Type 0 where
+  done m-above-H a-above-one depth-not-1-to-5 estimate-off-range n-above-limit : Code
+  T-no-upper-end claims-length answers-short reserved-not-zero x-above-T : Code
+
+-- the table's first column
+abbrev pub number : Code → ℕ
+number done = 0
+number m-above-H = 1
+number a-above-one = 2
+number depth-not-1-to-5 = 3
+number estimate-off-range = 4
+number n-above-limit = 5
+number T-no-upper-end = 6
+number claims-length = 7
+number answers-short = 8
+number reserved-not-zero = 9
+number x-above-T = 10
+
+-- "Order: 9, 1, 2, 3, 10, 4, 5, 6, as far as a call has that input"; "for the batch, 7 and then 8 come before any record is read"
+pub order : List Code
+order =
+    claims-length ∷ answers-short ∷ reserved-not-zero ∷ m-above-H ∷ a-above-one ∷ depth-not-1-to-5
+    ∷ x-above-T ∷ estimate-off-range ∷ n-above-limit ∷ T-no-upper-end ∷ []
+
+-- a condition of the table's second column, for one call's input, beside its code
+pub record Check : Type 0 where
+  pub fails : Bool
+  pub code : Code
+
+abbrev pub or : Bool → Bool → Bool
+or true b = true
+or false b = b
+
+-- "M above H"
+abbrev pub m-check : ℕ → Check
+m-check m = record { fails = ltb H-units m; code = m-above-H }
+
+-- "A above 2^28"
+abbrev pub a-check : ℕ → Check
+a-check a = record { fails = ltb one a; code = a-above-one }
+
+-- "depth not 1 to 5"
+abbrev pub depth-check : ℕ → Check
+depth-check d = record { fails = or (ltb d 1) (ltb depths d); code = depth-not-1-to-5 }
+
+-- "grid angle above T"
+abbrev pub x-check : ℕ → Check
+x-check x = record { fails = ltb T-units x; code = x-above-T }
+
+-- "N above 65,535"
+abbrev pub n-check : ℕ → Check
+n-check n = record { fails = ltb N-units n; code = n-above-limit }
+
+-- a call's code: that of the first of its checks that fails, and `done` where none does
+abbrev pub first : List Check → Code
+first [] = done
+first (c ∷ cs) = cond (c .fails) (c .code) (first cs)

@@ -1,0 +1,4 @@
+pub mod Terms
+pub mod Bounds
+pub mod Exact
+pub mod Sine

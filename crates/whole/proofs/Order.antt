@@ -1,0 +1,76 @@
+-- The order of signed numbers by their parts, and the greater and the lesser of two. Assumes nothing.
+use mathlib.Core.Path.{_≡_, refl, ap}
+use mathlib.Core.Bool.{Bool, true, false, not}
+use mathlib.Core.Logic.{_↔_}
+use Prim.Native.Nat.{ℕ, zero, suc, _+_, _-_, _≤_, _<_}
+use native.Mathlib.Omega.{arith}
+use lib.Dec.{T, leb, leb→le, le→leb, nleb→lt}
+use lib.IntN.{ℤ, pos, negsuc}
+use lib.Signed.{leZ, _≤ℤ_, leZ-yes}
+use Rattle.whole.specs.Choose.{greater, lesser}
+use Rattle.whole.proofs.Parts.{plus, minus, Is, by-test}
+
+own-le : (y z : ℤ) → T (leZ y z) → plus y + minus z ≤ plus z + minus y
+own-le (pos a) (pos b) t = let h = leb→le a b t in omega arith
+own-le (pos a) (negsuc b) t = absurd t
+own-le (negsuc a) (pos b) t = omega arith
+own-le (negsuc a) (negsuc b) t = let h = leb→le b a t in omega arith
+
+le-own : (y z : ℤ) → plus y + minus z ≤ plus z + minus y → T (leZ y z)
+le-own (pos a) (pos b) h = le→leb a b (omega arith)
+le-own (pos a) (negsuc b) h = absurd (let k : ⊥ = omega arith in k)
+le-own (negsuc a) (pos b) h = tt
+le-own (negsuc a) (negsuc b) h = le→leb b a (omega arith)
+
+-- y ≤ z, where y is a - b and z is c - d, says a + d ≤ c + b
+pub le-parts : {y z : ℤ} {a b c d : ℕ} → Is y a b → Is z c d → y ≤ℤ z ↔ a + d ≤ c + b
+le-parts {y} {z} i j =
+    let e = i .eq in
+    let f = j .eq in
+    (λ h. let k = own-le y z (h .le) in omega arith, λ k. record { le = le-own y z (omega arith) })
+
+-- the same of the test
+pub test-parts : {y z : ℤ} {a b c d : ℕ} → Is y a b → Is z c d → T (leZ y z) ↔ a + d ≤ c + b
+test-parts i j = (λ t. le-parts i j .0 (leZ-yes t), λ h. le-parts i j .1 h .le)
+
+-- two signed numbers with the same parts are one
+pub one-number : {y z : ℤ} {a b : ℕ} → Is y a b → Is z a b → y ≡ z
+one-number {y} {z} {a} {b} i j = same y z (let e = i .eq in let f = j .eq in omega arith)
+  where
+    same : (y z : ℤ) → plus y + minus z ≡ plus z + minus y → y ≡ z
+    same (pos a) (pos b) e = ap pos (omega arith)
+    same (pos a) (negsuc b) e = absurd (let k : ⊥ = omega arith in k)
+    same (negsuc a) (pos b) e = absurd (let k : ⊥ = omega arith in k)
+    same (negsuc a) (negsuc b) e = ap negsuc (omega arith)
+
+-- what holds of both holds of the greater and of the lesser
+pub of-greater : (P : ℤ → Type 0) (y z : ℤ) → P y → P z → P (greater y z)
+of-greater P y z p q = by-test P (leZ y z) z y (λ t. q) (λ t. p)
+
+pub of-lesser : (P : ℤ → Type 0) (y z : ℤ) → P y → P z → P (lesser y z)
+of-lesser P y z p q = by-test P (leZ y z) y z (λ t. p) (λ t. q)
+
+not-le : (y z : ℤ) → T (not (leZ y z)) → T (leZ z y)
+not-le (pos a) (pos b) t = le→leb b a (let h = nleb→lt a b t in omega arith)
+not-le (pos a) (negsuc b) t = tt
+not-le (negsuc a) (pos b) t = absurd t
+not-le (negsuc a) (negsuc b) t = le→leb a b (let h = nleb→lt b a t in omega arith)
+
+self-le : (z : ℤ) → T (leZ z z)
+self-le z = le-own z z (omega arith)
+
+pub le-greater-left : (y z : ℤ) → y ≤ℤ greater y z
+le-greater-left y z =
+    by-test (λ (g : ℤ). y ≤ℤ g) (leZ y z) z y (λ t. leZ-yes t) (λ t. leZ-yes (self-le y))
+
+pub le-greater-right : (y z : ℤ) → z ≤ℤ greater y z
+le-greater-right y z =
+    by-test (λ (g : ℤ). z ≤ℤ g) (leZ y z) z y (λ t. leZ-yes (self-le z)) (λ t. leZ-yes (not-le y z t))
+
+pub lesser-le-left : (y z : ℤ) → lesser y z ≤ℤ y
+lesser-le-left y z =
+    by-test (λ (g : ℤ). g ≤ℤ y) (leZ y z) y z (λ t. leZ-yes (self-le y)) (λ t. leZ-yes (not-le y z t))
+
+pub lesser-le-right : (y z : ℤ) → lesser y z ≤ℤ z
+lesser-le-right y z =
+    by-test (λ (g : ℤ). g ≤ℤ z) (leZ y z) y z (λ t. leZ-yes t) (λ t. leZ-yes (self-le z))
