@@ -63,3 +63,8 @@ n-check n = record { fails = ltb N-units n; code = n-above-limit }
 abbrev pub first : List Check → Code
 first [] = done
 first (c ∷ cs) = cond (c .fails) (c .code) (first cs)
+
+-- a call's answer: what is refused with the number of the first check that fails, and `given` where none does
+abbrev pub answer : {A : Type 0} → List Check → (ℕ → A) → A → A
+answer [] refused given = given
+answer (c ∷ cs) refused given = cond (c .fails) (refused (number (c .code))) (answer cs refused given)

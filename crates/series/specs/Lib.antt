@@ -2,3 +2,5 @@ pub mod Terms
 pub mod Bounds
 pub mod Exact
 pub mod Sine
+pub mod Entry
+pub mod Walk

@@ -1,1 +1,169 @@
-// The sine bounds.
+// Sine bounds in whole units: Lo and Hi of an angle at a depth.
+ghost use mathlib.Core.Path.{_≡_};
+ghost use Prim.Native.Nat.{suc, _*_, _≤_, max, min};
+ghost use Rattle.grid.specs.Grid.{one, T-units};
+ghost use Rattle.whole.specs.Round.{down, up};
+ghost use Rattle.series.specs.Walk.{Small, Walking, OnGrid, Low, walk, raisedBounds};
+ghost use Rattle.series.specs.Entry.{sineRule};
+
+use grid::Angle;
+use grid::AngleOr;
+use grid::Depth;
+use grid::DepthOr;
+
+// Lo and Hi, each raised by 2^34 and so never below 0.
+pub struct Raised {
+    pub lo: u64,
+    pub hi: u64,
+}
+
+// What the public entry answers.
+pub struct SineBounds {
+    pub code: u32,
+    pub lo: i64,
+    pub hi: i64,
+}
+
+// The walk through the terms of the angle x, after `pairs` pairs of them.
+struct Walk {
+    x: u64,
+    pairs: u64,
+    // Q- and Q+
+    below: u64,
+    above: u64,
+    // the terms l and u numbered 2 pairs
+    l: u64,
+    u: u64,
+    // the raw bounds of this depth and the best so far, raised
+    low: u64,
+    high: u64,
+    lo: u64,
+    hi: u64,
+}
+
+const RAISE: u64 = 17_179_869_184;
+const ROUND: u64 = 268_435_455;
+
+// t q / (2^28 divisor), rounded down once: the shift's loss can't reach the next multiple.
+fn term_down(t: u64, q: u64, divisor: u64) -> u64
+    requires { ⌜ Small t q divisor ⌝ }
+    ensures { λ r. ⌜ r ≡ down (t * q) (one * divisor) ⌝ }
+{
+    ((t * q) >> 28) / divisor
+}
+
+// The same, rounded up.
+fn term_up(t: u64, q: u64, divisor: u64) -> u64
+    requires { ⌜ Small t q divisor ⌝ }
+    ensures { λ r. ⌜ r ≡ up (t * q) (one * divisor) ⌝ }
+{
+    (((t * q + ROUND) >> 28) + (divisor - 1)) / divisor
+}
+
+fn begin(x: u64) -> Walk
+    requires { ⌜ x ≤ T-units ⌝ }
+    ensures { λ r. ⌜ r ≡ walk x 0 ⌝ }
+{
+    let square = x * x;
+    Walk {
+        x,
+        pairs: 0,
+        below: square >> 28,
+        above: (square + ROUND) >> 28,
+        l: x,
+        u: x,
+        low: RAISE,
+        high: RAISE + x,
+        lo: 0,
+        hi: 2 * RAISE,
+    }
+}
+
+fn greater(a: u64, b: u64) -> u64
+    ensures { λ r. ⌜ r ≡ max a b ⌝ }
+{
+    if a < b { b } else { a }
+}
+
+fn lesser(a: u64, b: u64) -> u64
+    ensures { λ r. ⌜ r ≡ min a b ⌝ }
+{
+    if a < b { a } else { b }
+}
+
+// One pair of terms further: those numbered 2 pairs + 1 and 2 pairs + 2.
+fn deepen(s: Walk) -> Walk
+    requires { ⌜ Walking s ⌝ }
+    ensures { λ r. ⌜ r ≡ walk (s .x) (suc (s .pairs)) ⌝ }
+{
+    let k = 2 * s.pairs + 1;
+    let odd = 2 * k * (2 * k + 1);
+    let even = (2 * k + 2) * (2 * k + 3);
+    let l1 = term_down(s.l, s.below, odd);
+    let u1 = term_up(s.u, s.above, odd);
+    let l2 = term_down(l1, s.below, even);
+    let u2 = term_up(u1, s.above, even);
+    let low = s.low + s.l - u1;
+    let high = s.high + u2 - l1;
+    Walk {
+        x: s.x,
+        pairs: s.pairs + 1,
+        below: s.below,
+        above: s.above,
+        l: l2,
+        u: u2,
+        low,
+        high,
+        lo: greater(s.lo, low),
+        hi: lesser(s.hi, high),
+    }
+}
+
+// Lo and Hi, raised. Each depth's divisors are known where it is called, so that the quotients are products.
+pub fn bounds_at(x: Angle, d: Depth) -> Raised
+    requires { ⌜ OnGrid x d ⌝ }
+    ensures { λ r. ⌜ r ≡ raisedBounds (x .units) (d .pairs) ⌝ }
+{
+    let n = d.pairs;
+    let mut s = deepen(begin(x.units));
+    if n == 1 {
+        return Raised { lo: s.lo, hi: s.hi };
+    }
+    s = deepen(s);
+    if n == 2 {
+        return Raised { lo: s.lo, hi: s.hi };
+    }
+    s = deepen(s);
+    if n == 3 {
+        return Raised { lo: s.lo, hi: s.hi };
+    }
+    s = deepen(s);
+    if n == 4 {
+        return Raised { lo: s.lo, hi: s.hi };
+    }
+    s = deepen(s);
+    Raised { lo: s.lo, hi: s.hi }
+}
+
+// Lo and Hi of an angle of x units at a depth, or the code of what is out of limits: 3, then 10.
+pub fn sine(x: u32, depth: u32) -> SineBounds
+    ensures { λ r. ⌜ r ≡ sineRule x depth ⌝ }
+{
+    match Depth::new(depth) {
+        DepthOr::Refused(code) => SineBounds { code, lo: 0, hi: 0 },
+        DepthOr::Made(d) => match Angle::new(x) {
+            AngleOr::Refused(code) => SineBounds { code, lo: 0, hi: 0 },
+            AngleOr::Made(a) => lowered(bounds_at(a, d)),
+        },
+    }
+}
+
+fn lowered(r: Raised) -> SineBounds
+    requires { ⌜ Low r ⌝ }
+{
+    SineBounds {
+        code: 0,
+        lo: (r.lo as i64) - (RAISE as i64),
+        hi: (r.hi as i64) - (RAISE as i64),
+    }
+}
