@@ -1,1 +1,17 @@
+pub mod Deeper
+pub mod Depths
+pub mod Factorial
+pub mod Falling
+pub mod Next
+pub mod Pair
+pub mod Raising
+pub mod Range
+pub mod Raw
+pub mod Rise
+pub mod Sides
+pub mod Starred
 pub mod Sums
+pub mod True
+pub mod Truth
+pub mod Walking
+pub mod Width

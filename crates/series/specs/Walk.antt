@@ -47,25 +47,23 @@ bestHigh X (suc d) = raised (Hi X (suc d))
 -- the walk through the terms of X after d pairs
 abbrev pub walk : ℕ → ℕ → Walk
 walk X d =
-    record
-      { x = X
-      ; pairs = d
-      ; below = Q- X
-      ; above = Q+ X
-      ; l = l sine X (2 * d)
-      ; u = u sine X (2 * d)
-      ; low = raise + evens (l sine X) d - odds (u sine X) d
-      ; high = raise + evens (u sine X) (suc d) - odds (l sine X) d
-      ; lo = bestLow X d
-      ; hi = bestHigh X d
-      }
+    record {
+      x = X;
+      pairs = d;
+      below = Q- X;
+      above = Q+ X;
+      l = l sine X (2 * d);
+      u = u sine X (2 * d);
+      low = raise + evens (l sine X) d - odds (u sine X) d;
+      high = raise + evens (u sine X) (suc d) - odds (l sine X) d;
+      lo = bestLow X d;
+      hi = bestHigh X d;
+    }
 
-pub record Walking (s : Walk) : Type 0 where
+-- a walk with a pair to go, and that pair's divisors
+pub record Walking (s : Walk) (a b : ℕ) : Type 0 where
   pub at : s ≡ walk (s .x) (s .pairs)
   pub angle : s .x ≤ T-units
   pub fewer : s .pairs < depths
-
--- raised bounds that can be lowered again
-pub record Low (r : Raised) : Type 0 where
-  pub lo : r .lo ≤ 2 * raise
-  pub hi : r .hi ≤ 2 * raise
+  pub odd : a ≡ sine .divisor (suc (2 * s .pairs))
+  pub even : b ≡ sine .divisor (suc (suc (2 * s .pairs)))

@@ -1,11 +1,11 @@
 // Sine bounds in whole units: Lo and Hi of an angle at a depth.
 ghost use mathlib.Core.Path.{_≡_};
+ghost use lib.IntN.{subℕ};
 ghost use Prim.Native.Nat.{suc, _*_, _≤_, max, min};
 ghost use Rattle.grid.specs.Grid.{one, T-units};
 ghost use Rattle.whole.specs.Round.{down, up};
-ghost use Rattle.series.specs.Walk.{Small, Walking, OnGrid, Low, walk, raisedBounds};
+ghost use Rattle.series.specs.Walk.{Small, Walking, OnGrid, raise, walk, raisedBounds};
 ghost use Rattle.series.specs.Entry.{sineRule};
-
 use grid::Angle;
 use grid::AngleOr;
 use grid::Depth;
@@ -42,6 +42,7 @@ struct Walk {
 }
 
 const RAISE: u64 = 17_179_869_184;
+
 const ROUND: u64 = 268_435_455;
 
 // t q / (2^28 divisor), rounded down once: the shift's loss can't reach the next multiple.
@@ -91,14 +92,11 @@ fn lesser(a: u64, b: u64) -> u64
     if a < b { a } else { b }
 }
 
-// One pair of terms further: those numbered 2 pairs + 1 and 2 pairs + 2.
-fn deepen(s: Walk) -> Walk
-    requires { ⌜ Walking s ⌝ }
+// One pair of terms further, with the divisors of the odd-numbered and the even-numbered one.
+fn deepen(s: Walk, odd: u64, even: u64) -> Walk
+    requires { ⌜ Walking s odd even ⌝ }
     ensures { λ r. ⌜ r ≡ walk (s .x) (suc (s .pairs)) ⌝ }
 {
-    let k = 2 * s.pairs + 1;
-    let odd = 2 * k * (2 * k + 1);
-    let even = (2 * k + 2) * (2 * k + 3);
     let l1 = term_down(s.l, s.below, odd);
     let u1 = term_up(s.u, s.above, odd);
     let l2 = term_down(l1, s.below, even);
@@ -125,24 +123,32 @@ pub fn bounds_at(x: Angle, d: Depth) -> Raised
     ensures { λ r. ⌜ r ≡ raisedBounds (x .units) (d .pairs) ⌝ }
 {
     let n = d.pairs;
-    let mut s = deepen(begin(x.units));
+    let mut s = deepen(begin(x.units), 6, 20);
     if n == 1 {
         return Raised { lo: s.lo, hi: s.hi };
     }
-    s = deepen(s);
+    s = deepen(s, 42, 72);
     if n == 2 {
         return Raised { lo: s.lo, hi: s.hi };
     }
-    s = deepen(s);
+    s = deepen(s, 110, 156);
     if n == 3 {
         return Raised { lo: s.lo, hi: s.hi };
     }
-    s = deepen(s);
+    s = deepen(s, 210, 272);
     if n == 4 {
         return Raised { lo: s.lo, hi: s.hi };
     }
-    s = deepen(s);
+    s = deepen(s, 342, 420);
     Raised { lo: s.lo, hi: s.hi }
+}
+
+// The signed number that was raised.
+fn lowered(raised: u64) -> i64
+    requires { ⌜ raised ≤ 2 * raise ⌝ }
+    ensures { λ r. ⌜ r ≡ subℕ raised raise ⌝ }
+{
+    (raised as i64) - (RAISE as i64)
 }
 
 // Lo and Hi of an angle of x units at a depth, or the code of what is out of limits: 3, then 10.
@@ -153,17 +159,14 @@ pub fn sine(x: u32, depth: u32) -> SineBounds
         DepthOr::Refused(code) => SineBounds { code, lo: 0, hi: 0 },
         DepthOr::Made(d) => match Angle::new(x) {
             AngleOr::Refused(code) => SineBounds { code, lo: 0, hi: 0 },
-            AngleOr::Made(a) => lowered(bounds_at(a, d)),
+            AngleOr::Made(a) => {
+                let b = bounds_at(a, d);
+                SineBounds {
+                    code: 0,
+                    lo: lowered(b.lo),
+                    hi: lowered(b.hi),
+                }
+            }
         },
-    }
-}
-
-fn lowered(r: Raised) -> SineBounds
-    requires { ⌜ Low r ⌝ }
-{
-    SineBounds {
-        code: 0,
-        lo: (r.lo as i64) - (RAISE as i64),
-        hi: (r.hi as i64) - (RAISE as i64),
     }
 }

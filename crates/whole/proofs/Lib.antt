@@ -1,2 +1,4 @@
-pub mod Parts
+pub mod Nested
 pub mod Order
+pub mod Parts
+pub mod Round

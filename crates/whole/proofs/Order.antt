@@ -8,7 +8,7 @@ use lib.Dec.{T, leb, leb→le, le→leb, nleb→lt}
 use lib.IntN.{ℤ, pos, negsuc}
 use lib.Signed.{leZ, _≤ℤ_, leZ-yes}
 use Rattle.whole.specs.Choose.{greater, lesser}
-use Rattle.whole.proofs.Parts.{plus, minus, Is, by-test}
+use Rattle.whole.proofs.Parts.{plus, minus, Is, own, by-test}
 
 own-le : (y z : ℤ) → T (leZ y z) → plus y + minus z ≤ plus z + minus y
 own-le (pos a) (pos b) t = let h = leb→le a b t in omega arith
@@ -74,3 +74,9 @@ lesser-le-left y z =
 pub lesser-le-right : (y z : ℤ) → lesser y z ≤ℤ z
 lesser-le-right y z =
     by-test (λ (g : ℤ). g ≤ℤ z) (leZ y z) y z (λ t. leZ-yes t) (λ t. leZ-yes (self-le z))
+
+pub ≤ℤ-trans : {x y z : ℤ} → x ≤ℤ y → y ≤ℤ z → x ≤ℤ z
+≤ℤ-trans {x} {y} {z} h k =
+    let f = le-parts (own x) (own y) .0 h in
+    let g = le-parts (own y) (own z) .0 k in
+    le-parts (own x) (own z) .1 (omega arith)

@@ -1,0 +1,47 @@
+-- No lower end lies above an upper end, for e up to 1: x - S_9(x) rises with x, and S_9 is below S_10. Assumes nothing.
+use mathlib.Core.Path.{_≡_, ap}
+use Prim.Native.Nat.{ℕ, suc, _+_, _-_, _*_, _≤_, _<_}
+use native.Mathlib.Omega.{arith}
+use native.Mathlib.Nat.{mul-le-mul-left}
+use lib.Dec.{T, ltb, not-T, ltb→lt, nltb→le}
+use Rattle.grid.specs.Grid.{one, T-units, depths}
+use Rattle.series.specs.Sine.{sine, den9}
+use Rattle.series.proofs.Sums.{same, other}
+use Rattle.series.proofs.Range.{sine-divides}
+use Rattle.series.proofs.Truth.{den-pos}
+use Rattle.series.proofs.Next.{drop-last}
+use Rattle.series.proofs.Rise.{sine-rises}
+use Rattle.ends.specs.declared.Orbit.{Orbit}
+use Rattle.ends.specs.Ends.{lowerEnd, upperEnd}
+use Rattle.ends.specs.Exact.{LowerExact, UpperExact}
+use Rattle.ends.proofs.Both.{Spares}
+use Rattle.ends.proofs.Tests.{lower-exact, upper-exact}
+use Rattle.ends.proofs.Exact.{lower-true, upper-true}
+
+-- with u = a + b: a times the rise of x - S(x) and b times that of x are all of u, and neither can be undone
+gap : (u a b D X Y M sX oX sY oY : ℕ) → u ≡ a + b → 0 < u → 0 < D → Y < X
+    → Y * D + sY + oX < X * D + sX + oY → Spares 0 (u * X) (u * M) a D oX sX → Spares 0 (u * M) (u * Y) a D sY oY → ⊥
+gap u a b D X Y M sX oX sY oY e some den above rise lower upper =
+    let x : u * (X * D) ≡ (a + b) * (X * D) = ap (λ (k : ℕ). k * (X * D)) e in
+    let y : u * (Y * D) ≡ (a + b) * (Y * D) = ap (λ (k : ℕ). k * (Y * D)) e in
+    omega (arith, mul-le-mul-left a rise, mul-le-mul-left (b * D) above, mul-le-mul-left b den)
+
+pub exact-apart : (o : Orbit) (X Y : ℕ) → o .a ≤ one → X ≤ T-units → LowerExact o X → UpperExact o Y → X ≤ Y
+exact-apart o X Y e w p q = nltb→le Y X (not-T (ltb Y X) (λ t. clash (ltb→lt Y X t)))
+  where
+    last : Spares 0 (one * o .m) (one * Y) (o .a) den9 (same sine Y 9) (other sine Y 9)
+    last =
+        let h = upper-exact o Y .0 q in
+        let k = drop-last sine sine-divides Y 9 (o .a) (one * Y) (one * o .m) (omega arith) in
+        omega arith
+
+    clash : Y < X → ⊥
+    clash above =
+        gap one (o .a) (one - o .a) den9 X Y (o .m) (same sine X 9) (other sine X 9) (same sine Y 9) (other sine Y 9)
+        (omega arith) (omega arith) (den-pos sine sine-divides 9) above (sine-rises Y X above w) (lower-exact o X .0 p) last
+
+-- at any depths, equal or not
+pub apart : (o : Orbit) (X Y d e : ℕ) → o .a ≤ one → X ≤ T-units → Y ≤ T-units → d ≤ depths → e ≤ depths
+    → T (lowerEnd o d X) → T (upperEnd o e Y) → X ≤ Y
+apart o X Y d e small x y i j p q =
+    exact-apart o X Y small x (lower-true o X x d i p) (upper-true o Y y e j q)

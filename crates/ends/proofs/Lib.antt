@@ -1,0 +1,5 @@
+pub mod Both
+pub mod Tests
+pub mod Exact
+pub mod Apart
+pub mod Limits

@@ -1,0 +1,35 @@
+-- `series::lowered` meets its contract: the difference of two naturals below 2^63. Assumes nothing.
+use mathlib.Core.Path.{_≡_, ap, _∙_, subst, sym}
+use Prim.Native.Nat.{ℕ, _<_}
+use native.Mathlib.Omega.{arith}
+use borrow.Author.Needs.{needs}
+use lib.IntN.{ℤ, pos, subℕ, _-ℤ_}
+use mir.Syntax.{w64}
+use mir.Val.{toZ, ofZ, SFits}
+use mir.Facts.{toZ-ofZ, toZ-pos}
+use Rattle.series.specs.Walk.{raise}
+use Rattle.series.proofs.Raising.{within-fits}
+use Rattle.series.proofs.lowered.Statement.{statement}
+use Rattle.series.proofs.lowered.Tie as tie
+
+-- the number as it is read back from its bits
+read : (c : tie.Start) → toZ w64 (c .args .raised) -ℤ pos raise ≡ subℕ (c .args .raised) raise
+read c = ap (λ (z : ℤ). z -ℤ pos raise) (toZ-pos w64 {n = c .args .raised} (omega arith))
+
+fits : (c : tie.Start) → SFits w64 (toZ w64 (c .args .raised) -ℤ pos raise)
+fits c = subst (SFits w64) (sym (read c)) (within-fits (c .args .raised) (c .pre))
+
+cast-result : tie.Need-cast-result
+cast-result c = search needs
+
+cast-result-2 : tie.Need-cast-result-2
+cast-result-2 c = search needs
+
+sub-result : tie.Need-sub-result
+sub-result c = fits c
+
+returns : tie.Need-returns
+returns c = toZ-ofZ (fits c) ∙ read c
+
+pub lowered-spec : {M : Type 1} → statement M
+lowered-spec = tie.close (tie.spec cast-result cast-result-2 sub-result returns)

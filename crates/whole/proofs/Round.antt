@@ -1,0 +1,37 @@
+-- Quotients rounded down and up: how far from the exact quotient, and that they grow with what is divided.
+-- Assumes nothing.
+use Prim.Native.Nat.{ℕ, suc, _+_, _-_, _*_, _≤_, _<_}
+use native.Mathlib.Omega.{arith}
+use native.Mathlib.Nat.{div-mul-le-self, lt-div-mul-add, le-div-iff-mul-le, div-lt-iff-lt-mul}
+use Rattle.whole.specs.Round.{down, up}
+
+-- rounded down, times the divisor: at most what was divided, and less than one divisor short of it
+pub down-le : (a b : ℕ) → down a b * b ≤ a
+down-le a b = div-mul-le-self a b
+
+pub lt-down : (a b : ℕ) → 0 < b → a < down a b * b + b
+lt-down a b h = lt-div-mul-add h
+
+-- the greatest such
+pub le-down : (n a b : ℕ) → 0 < b → n * b ≤ a → n ≤ down a b
+le-down n a b h k = le-div-iff-mul-le h .1 k
+
+-- rounded up, times the divisor: at least what was divided, and less than one divisor beyond it
+pub le-up : (a b : ℕ) → 0 < b → a ≤ up a b * b
+le-up a b h = let k = lt-down (a + (b - 1)) b h in omega arith
+
+pub up-lt : (a b : ℕ) → 0 < b → up a b * b < a + b
+up-lt a b h = let k = down-le (a + (b - 1)) b in omega arith
+
+-- the least such
+pub up-le : (n a b : ℕ) → 0 < b → a ≤ n * b → up a b ≤ n
+up-le n a b h k = let f : up a b < suc n = div-lt-iff-lt-mul h .1 (omega arith) in omega arith
+
+pub down-mono : {a c : ℕ} (b : ℕ) → 0 < b → a ≤ c → down a b ≤ down c b
+down-mono {a} {c} b h k = let f = down-le a b in le-down (down a b) c b h (omega arith)
+
+pub up-mono : {a c : ℕ} (b : ℕ) → 0 < b → a ≤ c → up a b ≤ up c b
+up-mono {a} {c} b h k = let f = le-up c b h in up-le (up c b) a b h (omega arith)
+
+pub down-le-up : (a b : ℕ) → 0 < b → down a b ≤ up a b
+down-le-up a b h = let f = down-le a b in le-down (down a b) (a + (b - 1)) b h (omega arith)
