@@ -1,20 +1,13 @@
--- What a checked constructor's answer, value or code, tells of its check. Assumes nothing.
+-- What an answer, value or code, tells of its checks: all passed, or the first that failed. It is the same for every
+-- answer that begins with these checks. Assumes nothing.
 use mathlib.Core.Path.{_≡_, refl, sym, ap, _∙_}
 use mathlib.Core.Bool.{Bool, true, false, cond}
+use mathlib.Core.List.{List, [], _∷_}
 use Prim.Native.Nat.{ℕ, _≤_}
 use native.Mathlib.Omega.{arith}
 use borrow.Author.Tests.{ltb-false}
-use Rattle.grid.specs.Grid.{one, H-units, T-units, depths}
-use Rattle.grid.specs.Codes.{Check, or, number, m-check, x-check, a-check, depth-check}
-use Rattle.grid.specs.declared.Angle.{Angle}
-use Rattle.grid.specs.declared.AngleOr.{AngleOr}
-use Rattle.grid.specs.declared.AngleOr.the-variants as angle
-use Rattle.grid.specs.declared.Eccentricity.{Eccentricity}
-use Rattle.grid.specs.declared.EccentricityOr.{EccentricityOr}
-use Rattle.grid.specs.declared.EccentricityOr.the-variants as eccentricity
-use Rattle.grid.specs.declared.Depth.{Depth}
-use Rattle.grid.specs.declared.DepthOr.{DepthOr}
-use Rattle.grid.specs.declared.DepthOr.the-variants as depth
+use Rattle.grid.specs.Grid.{one, H-units, T-units, depths, N-units}
+use Rattle.grid.specs.Codes.{Check, or, number, answer, m-check, x-check, a-check, depth-check, n-check}
 
 -- an enum A that answers a value of B or a code
 pub record Answers (A B : Type 0) : Type 0 where
@@ -24,71 +17,73 @@ pub record Answers (A B : Type 0) : Type 0 where
   pub codes : (j k : ℕ) → refused j ≡ refused k → j ≡ k
   pub values : (v w : B) → made v ≡ made w → v ≡ w
 
--- the answer of a constructor that makes v where the check c passes
-abbrev pub checked : {A B : Type 0} → Answers A B → Check → B → A
-checked s c v = cond (c .fails) (s .refused (number (c .code))) (s .made v)
-
--- the test of a choice that came out as its second or its first side, and that side
-second : {A B : Type 0} (s : Answers A B) (t : Bool) (k : ℕ) (v w : B) → cond t (s .refused k) (s .made v) ≡ s .made w → (t ≡ false) × (v ≡ w)
-second s true k v w e = absurd (s .apart k w e)
-second s false k v w e = (refl, s .values v w e)
-
-front : {A B : Type 0} (s : Answers A B) (t : Bool) (k j : ℕ) (v : B) → cond t (s .refused k) (s .made v) ≡ s .refused j → (t ≡ true) × (k ≡ j)
-front s true k j v e = (refl, s .codes k j e)
-front s false k j v e = absurd (s .apart j v (sym e))
-
-pub record Made {B : Type 0} (c : Check) (given made : B) : Type 0 where
-  pub passed : c .fails ≡ false
-  pub value : made ≡ given
-
-pub record Refused (c : Check) (code : ℕ) : Type 0 where
-  pub failed : c .fails ≡ true
-  pub number : code ≡ number (c .code)
-
-module _ {A B : Type 0} (s : Answers A B) (c : Check) (v : B) where
-  -- a value was made: the check passed, and it is the value given
-  pub was-made : (a : A) (w : B) → a ≡ checked s c v → a ≡ s .made w → Made c v w
-  was-made a w e f =
-      let p = second s (c .fails) (number (c .code)) v w (sym e ∙ f) in record { passed = p .0; value = sym (p .1) }
-
-  -- a code was answered: the check failed, and it is the check's code
-  pub was-refused : (a : A) (k : ℕ) → a ≡ checked s c v → a ≡ s .refused k → Refused c k
-  was-refused a k e f =
-      let p = front s (c .fails) (number (c .code)) k v (sym e ∙ f) in record { failed = p .0; number = sym (p .1) }
-
 -- 0 is not 1: how `cc` says that two constructors are apart
 pub clash : _≡_ {A = ℕ} 0 1 → ⊥
 clash e = omega arith
 
-abbrev pub angles : Answers AngleOr Angle
-angles =
-    record {
-      refused = angle.Refused;
-      made = angle.Made;
-      apart = λ k v e. clash (cc);
-      codes = λ j k e. cc;
-      values = λ v w e. cc;
-    }
+abbrev pub Passed : List Check → Type 0
+Passed [] = Unit {0}
+Passed (c ∷ cs) = (c .fails ≡ false) × Passed cs
 
-abbrev pub eccentricities : Answers EccentricityOr Eccentricity
-eccentricities =
-    record {
-      refused = eccentricity.Refused;
-      made = eccentricity.Made;
-      apart = λ k v e. clash (cc);
-      codes = λ j k e. cc;
-      values = λ v w e. cc;
-    }
+-- all checks passed, and any answer that begins with them goes on
+pub record Given (cs : List Check) : Type 1 where
+  pub passed : Passed cs
+  pub on : {C : Type 0} (r : ℕ → C) (g : C) → answer cs r g ≡ g
 
-abbrev pub depth-answers : Answers DepthOr Depth
-depth-answers =
-    record {
-      refused = depth.Refused;
-      made = depth.Made;
-      apart = λ k v e. clash (cc);
-      codes = λ j k e. cc;
-      values = λ v w e. cc;
-    }
+-- a check failed, and any answer that begins with them is refused with that number
+pub record Stopped (cs : List Check) (code : ℕ) : Type 1 where
+  pub on : {C : Type 0} (r : ℕ → C) (g : C) → answer cs r g ≡ r code
+
+past : (c : Check) (cs : List Check) → c .fails ≡ false → Given cs → Given (c ∷ cs)
+past c cs p rest =
+    record
+      { passed = (p, rest .passed)
+      ; on = λ r g. ap (λ (t : Bool). cond t (r (number (c .code))) (answer cs r g)) p ∙ rest .on r g
+      }
+
+pub passes : (cs : List Check) → Passed cs → Given cs
+passes [] p = record { passed = tt; on = λ r g. refl }
+passes (c ∷ cs) p = past c cs (p .0) (passes cs (p .1))
+
+stop : (c : Check) (cs : List Check) → c .fails ≡ true → Stopped (c ∷ cs) (number (c .code))
+stop c cs p = record { on = λ r g. ap (λ (t : Bool). cond t (r (number (c .code))) (answer cs r g)) p }
+
+later : (c : Check) (cs : List Check) (k : ℕ) → c .fails ≡ false → Stopped cs k → Stopped (c ∷ cs) k
+later c cs k p rest =
+    record { on = λ r g. ap (λ (t : Bool). cond t (r (number (c .code))) (answer cs r g)) p ∙ rest .on r g }
+
+module _ {A B : Type 0} (s : Answers A B) (v : B) where
+  by-made : (c : Check) (cs : List Check) (w : B) (t : Bool) → c .fails ≡ t →
+      (answer cs (s .refused) (s .made v) ≡ s .made w → Given cs) →
+      cond t (s .refused (number (c .code))) (answer cs (s .refused) (s .made v)) ≡ s .made w → Given (c ∷ cs)
+  by-made c cs w true p rest e = absurd (s .apart (number (c .code)) w e)
+  by-made c cs w false p rest e = past c cs p (rest e)
+
+  given-by : (cs : List Check) (w : B) → answer cs (s .refused) (s .made v) ≡ s .made w → Given cs
+  given-by [] w e = record { passed = tt; on = λ r g. refl }
+  given-by (c ∷ cs) w e = by-made c cs w (c .fails) refl (given-by cs w) e
+
+  by-refused : (c : Check) (cs : List Check) (k : ℕ) (t : Bool) → c .fails ≡ t →
+      (answer cs (s .refused) (s .made v) ≡ s .refused k → Stopped cs k) →
+      cond t (s .refused (number (c .code))) (answer cs (s .refused) (s .made v)) ≡ s .refused k → Stopped (c ∷ cs) k
+  by-refused c cs k true p rest e =
+      record { on = λ r g. stop c cs p .on r g ∙ ap r (s .codes (number (c .code)) k e) }
+  by-refused c cs k false p rest e = later c cs k p (rest e)
+
+  stopped-by : (cs : List Check) (k : ℕ) → answer cs (s .refused) (s .made v) ≡ s .refused k → Stopped cs k
+  stopped-by [] k e = absurd (s .apart k v (sym e))
+  stopped-by (c ∷ cs) k e = by-refused c cs k (c .fails) refl (stopped-by cs k) e
+
+  -- from a constructor's contract, a ≡ answer .., and what a `match` found a to be
+  pub was-made : (cs : List Check) (a : A) (w : B) → a ≡ answer cs (s .refused) (s .made v) → a ≡ s .made w → Given cs
+  was-made cs a w e f = given-by cs w (sym e ∙ f)
+
+  pub value-made : (cs : List Check) (a : A) (w : B) → a ≡ answer cs (s .refused) (s .made v) → a ≡ s .made w → w ≡ v
+  value-made cs a w e f =
+      sym (s .values v w (sym (was-made cs a w e f .on (s .refused) (s .made v)) ∙ sym e ∙ f))
+
+  pub was-refused : (cs : List Check) (a : A) (k : ℕ) → a ≡ answer cs (s .refused) (s .made v) → a ≡ s .refused k → Stopped cs k
+  was-refused cs a k e f = stopped-by cs k (sym e ∙ f)
 
 -- ---- what a passed check says of its number
 
@@ -100,6 +95,9 @@ x-fits x e = ltb-false T-units x e
 
 pub a-fits : (a : ℕ) → a-check a .fails ≡ false → a ≤ one
 a-fits a e = ltb-false one a e
+
+pub n-fits : (n : ℕ) → n-check n .fails ≡ false → n ≤ N-units
+n-fits n e = ltb-false N-units n e
 
 neither : (s t : Bool) → or s t ≡ false → (s ≡ false) × (t ≡ false)
 neither true t e = (e, cc)

@@ -1,8 +1,7 @@
 -- "Angle, eccentricity and depth are types of their own, with .. a checked way to make one (codes 10, 2, 3)".
 use Prim.Native.Nat.{ℕ}
-use mathlib.Core.Bool.{Bool, cond}
-use Rattle.grid.specs.Codes.{Check, number, x-check, a-check, depth-check}
-use Rattle.grid.specs.declared.Angle.{Angle}
+use mathlib.Core.List.{[], _∷_}
+use Rattle.grid.specs.Codes.{answer, x-check, a-check, depth-check}
 use Rattle.grid.specs.declared.AngleOr.{AngleOr}
 use Rattle.grid.specs.declared.AngleOr.the-variants as angle
 use Rattle.grid.specs.declared.EccentricityOr.{EccentricityOr}
@@ -11,15 +10,10 @@ use Rattle.grid.specs.declared.DepthOr.{DepthOr}
 use Rattle.grid.specs.declared.DepthOr.the-variants as depth
 
 abbrev pub angleOf : ℕ → AngleOr
-angleOf x =
-    cond (x-check x .fails) (angle.Refused (number (x-check x .code))) (angle.Made (record { units = x }))
+angleOf x = answer (x-check x ∷ []) angle.Refused (angle.Made (record { units = x }))
 
 abbrev pub eccentricityOf : ℕ → EccentricityOr
-eccentricityOf a =
-    cond (a-check a .fails) (eccentricity.Refused (number (a-check a .code)))
-    (eccentricity.Made (record { units = a }))
+eccentricityOf a = answer (a-check a ∷ []) eccentricity.Refused (eccentricity.Made (record { units = a }))
 
 abbrev pub depthOf : ℕ → DepthOr
-depthOf d =
-    cond (depth-check d .fails) (depth.Refused (number (depth-check d .code)))
-    (depth.Made (record { pairs = d }))
+depthOf d = answer (depth-check d ∷ []) depth.Refused (depth.Made (record { pairs = d }))
