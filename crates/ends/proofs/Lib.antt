@@ -1,5 +1,8 @@
-pub mod Both
-pub mod Tests
-pub mod Exact
 pub mod Apart
+pub mod Both
+pub mod Coded
+pub mod Entry
+pub mod Enums
+pub mod Exact
 pub mod Limits
+pub mod Tests

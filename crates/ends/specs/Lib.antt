@@ -1,2 +1,4 @@
 pub mod Ends
 pub mod Exact
+pub mod Entry
+pub mod Fair

@@ -14,30 +14,30 @@ use Rattle.grid.proofs.Made.{Answers, clash}
 
 abbrev pub angles : Answers AngleOr Angle
 angles =
-    record
-      { refused = angle.Refused
-      ; made = angle.Made
-      ; apart = λ k v e. clash (cc)
-      ; codes = λ j k e. cc
-      ; values = λ v w e. cc
-      }
+    record {
+      refused = angle.Refused;
+      made = angle.Made;
+      apart = λ k v e. clash (cc);
+      codes = λ j k e. cc;
+      values = λ v w e. cc;
+    }
 
 abbrev pub eccentricities : Answers EccentricityOr Eccentricity
 eccentricities =
-    record
-      { refused = eccentricity.Refused
-      ; made = eccentricity.Made
-      ; apart = λ k v e. clash (cc)
-      ; codes = λ j k e. cc
-      ; values = λ v w e. cc
-      }
+    record {
+      refused = eccentricity.Refused;
+      made = eccentricity.Made;
+      apart = λ k v e. clash (cc);
+      codes = λ j k e. cc;
+      values = λ v w e. cc;
+    }
 
 abbrev pub depth-answers : Answers DepthOr Depth
 depth-answers =
-    record
-      { refused = depth.Refused
-      ; made = depth.Made
-      ; apart = λ k v e. clash (cc)
-      ; codes = λ j k e. cc
-      ; values = λ v w e. cc
-      }
+    record {
+      refused = depth.Refused;
+      made = depth.Made;
+      apart = λ k v e. clash (cc);
+      codes = λ j k e. cc;
+      values = λ v w e. cc;
+    }

@@ -36,10 +36,10 @@ pub record Stopped (cs : List Check) (code : ℕ) : Type 1 where
 
 past : (c : Check) (cs : List Check) → c .fails ≡ false → Given cs → Given (c ∷ cs)
 past c cs p rest =
-    record
-      { passed = (p, rest .passed)
-      ; on = λ r g. ap (λ (t : Bool). cond t (r (number (c .code))) (answer cs r g)) p ∙ rest .on r g
-      }
+    record {
+      passed = (p, rest .passed);
+      on = λ r g. ap (λ (t : Bool). cond t (r (number (c .code))) (answer cs r g)) p ∙ rest .on r g;
+    }
 
 pub passes : (cs : List Check) → Passed cs → Given cs
 passes [] p = record { passed = tt; on = λ r g. refl }

@@ -1,0 +1,49 @@
+-- What the checked constructors and the two end test entries answer for any numbers.
+use Prim.Native.Nat.{ℕ}
+use mathlib.Core.Bool.{Bool, true, false}
+use mathlib.Core.List.{List, [], _∷_}
+use Rattle.grid.specs.Codes.{Check, answer, m-check, a-check, depth-check, x-check}
+use Rattle.ends.specs.Ends.{lowerEnd, upperEnd}
+use Rattle.ends.specs.declared.Orbit.{Orbit}
+use Rattle.ends.specs.declared.OrbitOr.{OrbitOr}
+use Rattle.ends.specs.declared.OrbitOr.the-variants as orbit
+use Rattle.ends.specs.declared.Question.{Question}
+use Rattle.ends.specs.declared.QuestionOr.{QuestionOr}
+use Rattle.ends.specs.declared.QuestionOr.the-variants as question
+use Rattle.ends.specs.declared.End.{End}
+
+-- M and A of one problem: codes 1 and 2
+abbrev pub orbitChecks : ℕ → ℕ → List Check
+orbitChecks m a = m-check m ∷ a-check a ∷ []
+
+abbrev pub orbitAt : ℕ → ℕ → Orbit
+orbitAt m a = record { m = m; a = a }
+
+abbrev pub orbitOf : ℕ → ℕ → OrbitOr
+orbitOf m a = answer (orbitChecks m a) orbit.Refused (orbit.Made (orbitAt m a))
+
+-- codes 1, 2, 3 and 10 in that order
+abbrev pub questionChecks : ℕ → ℕ → ℕ → ℕ → List Check
+questionChecks x m a d = m-check m ∷ a-check a ∷ depth-check d ∷ x-check x ∷ []
+
+abbrev pub questionAt : ℕ → ℕ → ℕ → ℕ → Question
+questionAt x m a d = record { o = orbitAt m a; x = record { units = x }; d = record { pairs = d } }
+
+abbrev pub questionOf : ℕ → ℕ → ℕ → ℕ → QuestionOr
+questionOf x m a d = answer (questionChecks x m a d) question.Refused (question.Made (questionAt x m a d))
+
+-- accepted or not, as the entries say it
+abbrev pub flagged : Bool → End
+flagged true = record { code = 0; accepted = 1 }
+flagged false = record { code = 0; accepted = 0 }
+
+-- "with a code other than 0, all other returned numbers are 0"
+abbrev pub endRule : (Orbit → ℕ → ℕ → Bool) → ℕ → ℕ → ℕ → ℕ → End
+endRule end x m a d =
+    answer (questionChecks x m a d) (λ code. record { code = code; accepted = 0 }) (flagged (end (orbitAt m a) d x))
+
+unfoldable pub lowerRule : ℕ → ℕ → ℕ → ℕ → End
+lowerRule x m a d = endRule lowerEnd x m a d
+
+unfoldable pub upperRule : ℕ → ℕ → ℕ → ℕ → End
+upperRule x m a d = endRule upperEnd x m a d
