@@ -92,6 +92,7 @@ impl Question {
 }
 
 // What a public end test answers: accepted is 1 or 0.
+#[repr(C)]
 pub struct End {
     pub code: u32,
     pub accepted: u32,

@@ -23,24 +23,24 @@ same-small e f g v =
 
 module _ (s : Walk) (a b : ℕ) (w : Walking s a b) where
   l-at : s .l ≡ l sine (s .x) (2 * s .pairs)
-  l-at = ap (λ (r : Walk). r .l) (w .at)
+  l-at = ap (λ (r : Walk). r .l) (w .going .at)
 
   u-at : s .u ≡ u sine (s .x) (2 * s .pairs)
-  u-at = ap (λ (r : Walk). r .u) (w .at)
+  u-at = ap (λ (r : Walk). r .u) (w .going .at)
 
   below-at : s .below ≡ Q- (s .x)
-  below-at = ap (λ (r : Walk). r .below) (w .at)
+  below-at = ap (λ (r : Walk). r .below) (w .going .at)
 
   above-at : s .above ≡ Q+ (s .x)
-  above-at = ap (λ (r : Walk). r .above) (w .at)
+  above-at = ap (λ (r : Walk). r .above) (w .going .at)
 
   pub small-l : Small (s .l) (s .below) a
   small-l =
-      same-small l-at below-at (w .odd) (low-small (s .x) (w .angle) (2 * s .pairs) _ (divisor-odd (s .pairs) (w .fewer)))
+      same-small l-at below-at (w .odd) (low-small (s .x) (w .going .angle) (2 * s .pairs) _ (divisor-odd (s .pairs) (w .going .fewer)))
 
   pub small-u : Small (s .u) (s .above) a
   small-u =
-      same-small u-at above-at (w .odd) (high-small (s .x) (w .angle) (2 * s .pairs) _ (divisor-odd (s .pairs) (w .fewer)))
+      same-small u-at above-at (w .odd) (high-small (s .x) (w .going .angle) (2 * s .pairs) _ (divisor-odd (s .pairs) (w .going .fewer)))
 
   module _ (l1 u1 : ℕ) (el : l1 ≡ down (s .l * s .below) (one * a)) (eu : u1 ≡ up (s .u * s .above) (one * a)) where
     l1-at : l1 ≡ l sine (s .x) (suc (2 * s .pairs))
@@ -54,12 +54,12 @@ module _ (s : Walk) (a b : ℕ) (w : Walking s a b) where
     pub small-l1 : Small l1 (s .below) b
     small-l1 =
         same-small l1-at below-at (w .even)
-        (low-small (s .x) (w .angle) (suc (2 * s .pairs)) _ (divisor-even (s .pairs) (w .fewer)))
+        (low-small (s .x) (w .going .angle) (suc (2 * s .pairs)) _ (divisor-even (s .pairs) (w .going .fewer)))
 
     pub small-u1 : Small u1 (s .above) b
     small-u1 =
         same-small u1-at above-at (w .even)
-        (high-small (s .x) (w .angle) (suc (2 * s .pairs)) _ (divisor-even (s .pairs) (w .fewer)))
+        (high-small (s .x) (w .going .angle) (suc (2 * s .pairs)) _ (divisor-even (s .pairs) (w .going .fewer)))
 
     module _ (l2 u2 : ℕ) (fl : l2 ≡ down (l1 * s .below) (one * b)) (fu : u2 ≡ up (u1 * s .above) (one * b)) where
       l2-at : l2 ≡ l sine (s .x) (suc (suc (2 * s .pairs)))
@@ -80,19 +80,19 @@ module _ (s : Walk) (a b : ℕ) (w : Walking s a b) where
       u2-next = u2-at ∙ ap (u sine (s .x)) next
 
       low-at : s .low ≡ raise + evens (l sine (s .x)) (s .pairs) - odds (u sine (s .x)) (s .pairs)
-      low-at = ap (λ (r : Walk). r .low) (w .at)
+      low-at = ap (λ (r : Walk). r .low) (w .going .at)
 
       high-at : s .high ≡ raise + evens (u sine (s .x)) (suc (s .pairs)) - odds (l sine (s .x)) (s .pairs)
-      high-at = ap (λ (r : Walk). r .high) (w .at)
+      high-at = ap (λ (r : Walk). r .high) (w .going .at)
 
       -- the raw low gains l and loses u1, with room on both sides
       pub room-low : (s .low + s .l ≤ 3 * raise) × (u1 ≤ s .low + s .l)
       unfolding evens odds
       room-low =
           let d = s .pairs in
-          let h = w .fewer in
-          let p = odds-u-small (s .x) (w .angle) (suc d) h in
-          let q = evens-l-small (s .x) (w .angle) (suc d) h in
+          let h = w .going .fewer in
+          let p = odds-u-small (s .x) (w .going .angle) (suc d) h in
+          let q = evens-l-small (s .x) (w .going .angle) (suc d) h in
           let e = low-at in
           let f = l-at in
           let g = u1-at in omega arith
@@ -100,7 +100,7 @@ module _ (s : Walk) (a b : ℕ) (w : Walking s a b) where
       low-next : s .low + s .l - u1 ≡ raise + evens (l sine (s .x)) (suc (s .pairs)) - odds (u sine (s .x)) (suc (s .pairs))
       unfolding evens odds
       low-next =
-          let p = odds-u-small (s .x) (w .angle) (suc (s .pairs)) (w .fewer) in
+          let p = odds-u-small (s .x) (w .going .angle) (suc (s .pairs)) (w .going .fewer) in
           let e = low-at in
           let f = l-at in
           let g = u1-at in omega arith
@@ -110,9 +110,9 @@ module _ (s : Walk) (a b : ℕ) (w : Walking s a b) where
       unfolding evens odds
       room-high =
           let d = s .pairs in
-          let h = w .fewer in
-          let p = odds-l-small (s .x) (w .angle) (suc d) h in
-          let q = evens-u-small (s .x) (w .angle) (suc d) h in
+          let h = w .going .fewer in
+          let p = odds-l-small (s .x) (w .going .angle) (suc d) h in
+          let q = evens-u-small (s .x) (w .going .angle) (suc d) h in
           let e = high-at in
           let f = u2-next in
           let g = l1-at in omega arith
@@ -120,7 +120,7 @@ module _ (s : Walk) (a b : ℕ) (w : Walking s a b) where
       high-next : s .high + u2 - l1 ≡ raise + evens (u sine (s .x)) (suc (suc (s .pairs))) - odds (l sine (s .x)) (suc (s .pairs))
       unfolding evens odds
       high-next =
-          let p = odds-l-small (s .x) (w .angle) (suc (s .pairs)) (w .fewer) in
+          let p = odds-l-small (s .x) (w .going .angle) (suc (s .pairs)) (w .going .fewer) in
           let e = high-at in
           let f = u2-next in
           let g = l1-at in omega arith
@@ -141,9 +141,9 @@ module _ (s : Walk) (a b : ℕ) (w : Walking s a b) where
           }
           (walk (s .x) (suc (s .pairs)))
       walked lo hi p q =
-          let lo-at = ap (λ (r : Walk). r .lo) (w .at) in
-          let hi-at = ap (λ (r : Walk). r .hi) (w .at) in
-          let lo-next = better-low (s .x) (w .angle) (s .pairs) (w .fewer) in
-          let hi-next = better-high (s .x) (w .angle) (s .pairs) (w .fewer) in
+          let lo-at = ap (λ (r : Walk). r .lo) (w .going .at) in
+          let hi-at = ap (λ (r : Walk). r .hi) (w .going .at) in
+          let lo-next = better-low (s .x) (w .going .angle) (s .pairs) (w .going .fewer) in
+          let hi-next = better-high (s .x) (w .going .angle) (s .pairs) (w .going .fewer) in
           let more = add-one (s .pairs) in
           cc (p, q, lo-at, hi-at, lo-next, hi-next, more, below-at, above-at, l2-next, u2-next, low-next, high-next)

@@ -60,10 +60,14 @@ walk X d =
       hi = bestHigh X d;
     }
 
--- a walk with a pair to go, and that pair's divisors
-pub record Walking (s : Walk) (a b : ℕ) : Type 0 where
+-- a walk with a pair to go
+pub record Unfinished (s : Walk) : Type 0 where
   pub at : s ≡ walk (s .x) (s .pairs)
   pub angle : s .x ≤ T-units
   pub fewer : s .pairs < depths
+
+-- with that pair's divisors
+pub record Walking (s : Walk) (a b : ℕ) : Type 0 where
+  pub going : Unfinished s
   pub odd : a ≡ sine .divisor (suc (2 * s .pairs))
   pub even : b ≡ sine .divisor (suc (suc (2 * s .pairs)))

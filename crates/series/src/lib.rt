@@ -4,7 +4,7 @@ ghost use lib.IntN.{subℕ};
 ghost use Prim.Native.Nat.{suc, _*_, _≤_, max, min};
 ghost use Rattle.grid.specs.Grid.{one, T-units};
 ghost use Rattle.whole.specs.Round.{down, up};
-ghost use Rattle.series.specs.Walk.{Small, Walking, OnGrid, raise, walk, raisedBounds};
+ghost use Rattle.series.specs.Walk.{Small, Walking, Unfinished, OnGrid, raise, walk, raisedBounds};
 ghost use Rattle.series.specs.Entry.{sineRule};
 use grid::Angle;
 use grid::AngleOr;
@@ -18,6 +18,7 @@ pub struct Raised {
 }
 
 // What the public entry answers.
+#[repr(C)]
 pub struct SineBounds {
     pub code: u32,
     pub lo: i64,
@@ -25,20 +26,20 @@ pub struct SineBounds {
 }
 
 // The walk through the terms of the angle x, after `pairs` pairs of them.
-struct Walk {
-    x: u64,
-    pairs: u64,
+pub struct Walk {
+    pub x: u64,
+    pub pairs: u64,
     // Q- and Q+
-    below: u64,
-    above: u64,
+    pub below: u64,
+    pub above: u64,
     // the terms l and u numbered 2 pairs
-    l: u64,
-    u: u64,
+    pub l: u64,
+    pub u: u64,
     // the raw bounds of this depth and the best so far, raised
-    low: u64,
-    high: u64,
-    lo: u64,
-    hi: u64,
+    pub low: u64,
+    pub high: u64,
+    pub lo: u64,
+    pub hi: u64,
 }
 
 const RAISE: u64 = 17_179_869_184;
@@ -61,7 +62,8 @@ fn term_up(t: u64, q: u64, divisor: u64) -> u64
     (((t * q + ROUND) >> 28) + (divisor - 1)) / divisor
 }
 
-fn begin(x: u64) -> Walk
+// The walk before its first pair.
+pub fn begin(x: u64) -> Walk
     requires { ⌜ x ≤ T-units ⌝ }
     ensures { λ r. ⌜ r ≡ walk x 0 ⌝ }
 {
@@ -117,29 +119,31 @@ fn deepen(s: Walk, odd: u64, even: u64) -> Walk
     }
 }
 
-// Lo and Hi, raised. Each depth's divisors are known where it is called, so that the quotients are products.
+// The next pair of terms. Each pair's divisors stand in its own arm, so that the quotients are products.
+pub fn further(s: Walk) -> Walk
+    requires { ⌜ Unfinished s ⌝ }
+    ensures { λ r. ⌜ r ≡ walk (s .x) (suc (s .pairs)) ⌝ }
+{
+    let n = s.pairs;
+    match n {
+        0 => deepen(s, 6, 20),
+        1 => deepen(s, 42, 72),
+        2 => deepen(s, 110, 156),
+        3 => deepen(s, 210, 272),
+        _ => deepen(s, 342, 420),
+    }
+}
+
+// Lo and Hi, raised.
 pub fn bounds_at(x: Angle, d: Depth) -> Raised
     requires { ⌜ OnGrid x d ⌝ }
     ensures { λ r. ⌜ r ≡ raisedBounds (x .units) (d .pairs) ⌝ }
 {
-    let n = d.pairs;
-    let mut s = deepen(begin(x.units), 6, 20);
-    if n == 1 {
-        return Raised { lo: s.lo, hi: s.hi };
+    let depth = d.pairs as u64;
+    let mut s = begin(x.units);
+    while s.pairs < depth {
+        s = further(s);
     }
-    s = deepen(s, 42, 72);
-    if n == 2 {
-        return Raised { lo: s.lo, hi: s.hi };
-    }
-    s = deepen(s, 110, 156);
-    if n == 3 {
-        return Raised { lo: s.lo, hi: s.hi };
-    }
-    s = deepen(s, 210, 272);
-    if n == 4 {
-        return Raised { lo: s.lo, hi: s.hi };
-    }
-    s = deepen(s, 342, 420);
     Raised { lo: s.lo, hi: s.hi }
 }
 

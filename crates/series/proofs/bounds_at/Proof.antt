@@ -1,74 +1,68 @@
--- `series::bounds_at` meets its contract: one pair of terms after the other, up to the depth. Assumes nothing.
-use mathlib.Core.Path.{_≡_, refl}
+-- `series::bounds_at` meets its contract: the loop walks from pair to pair up to the depth. Assumes nothing.
+use mathlib.Core.Path.{_≡_, sym, ap, ap₂, _∙_}
+use Prim.Native.Nat.{suc, pred, _-_, _≤_}
 use native.Mathlib.Omega.{arith}
 use borrow.Author.Needs.{needs}
-use lib.Dec.{lit<}
-use Rattle.series.specs.Walk.{walk}
-use Rattle.series.proofs.Depths.{walking, further, bounds}
+use Rattle.series.specs.Walk.{walk, raisedBounds}
+use Rattle.series.specs.declared.Walk.{Walk}
+use Rattle.series.proofs.Depths.{unfinished, onward, own-pairs, walked-own, bounds}
 use Rattle.series.proofs.bounds_at.Statement.{statement}
 use Rattle.series.proofs.bounds_at.Tie as tie
 
--- the walk after each pair
-after-1 : (c : tie.After-deepen) → c .deepen .result ≡ walk (c .before .before .args .x .units) 1
-after-1 c = further _ _ _ (c .before .begin .ensures) _ (c .deepen .ensures)
+abbrev Inv-loop : tie.InvT-loop
+Inv-loop depth s₀ s = (s ≡ walk (s₀ .x) (s .pairs)) × (s .pairs ≤ depth)
 
-after-2 : (c : tie.After-deepen2) → c .deepen2 .result ≡ walk (c .before .before .before .before .args .x .units) 2
-after-2 c = further _ _ _ (after-1 (c .before .before)) _ (c .deepen2 .ensures)
+abbrev μ-loop : tie.MeasureT-loop
+μ-loop depth s₀ s = depth - s .pairs
 
-after-3 : (c : tie.After-deepen3) → c .deepen3 .result ≡ walk (c .before .before .before .before .before .before .args .x .units) 3
-after-3 c = further _ _ _ (after-2 (c .before .before)) _ (c .deepen3 .ensures)
+cast-depth : tie.Need-cast-depth Inv-loop μ-loop
+cast-depth c = search needs
 
-after-4 : (c : tie.After-deepen4) → c .deepen4 .result ≡ walk (c .before .before .before .before .before .before .before .before .args .x .units) 4
-after-4 c = further _ _ _ (after-3 (c .before .before)) _ (c .deepen4 .ensures)
+begin-requires : tie.Need-begin-requires Inv-loop μ-loop
+begin-requires c κs = c .before .pre .angle
 
-after-5 : (c : tie.After-deepen5) → c .deepen5 .result ≡ walk (c .before .before .before .before .before .before .before .before .before .before .args .x .units) 5
-after-5 c = further _ _ _ (after-4 (c .before .before)) _ (c .deepen5 .ensures)
+loop-holds : tie.Need-loop-holds Inv-loop μ-loop
+loop-holds c =
+    let e = c .begin .ensures in
+    let f = ap (λ (t : Walk). t .pairs) e in (walked-own _ _ _ e, omega arith)
 
-begin-requires : tie.Need-begin-requires
-begin-requires c κs = search needs
+further-requires : tie.Need-further-requires Inv-loop μ-loop
+further-requires c κs =
+    let l = c .before .before in
+    let f = ap (λ (t : Walk). t .x) (l .before .begin .ensures) in
+    unfinished _ (l .before .begin .result .x) _ (l .loop .inv .0) (omega (arith, l .before .before .before .pre .angle))
+    (omega (arith, l .before .before .before .pre .few))
 
-deepen-requires : tie.Need-deepen-requires
-deepen-requires c κs = walking _ _ 0 (c .begin .ensures) 6 20 (c .before .pre .angle) (lit< tt) refl refl
+-- the walk after a turn
+next : (c : tie.After-further Inv-loop μ-loop) → c .further .result ≡ walk (c .before .before .before .before .begin .result .x) (suc (c .before .before .before .loop .s .pairs))
+next c = onward _ _ _ (c .before .before .before .loop .inv .0) _ (c .further .ensures)
 
-returns : tie.Need-returns
-returns c = bounds _ _ 0 _ (after-1 (c .before)) (c .if1 .taken)
+loop-less : tie.Need-loop-less Inv-loop μ-loop
+loop-less c = let f = ap (λ (t : Walk). t .pairs) (next c) in omega arith
 
-deepen-requires-2 : tie.Need-deepen-requires-2
-deepen-requires-2 c κs = walking _ _ 1 (after-1 (c .before)) 42 72 (omega arith) (lit< tt) refl refl
+loop-again : tie.Need-loop-again Inv-loop μ-loop
+loop-again c =
+    let f = ap (λ (t : Walk). t .pairs) (next c) in (own-pairs _ _ _ (next c), omega arith)
 
-returns-2 : tie.Need-returns-2
-returns-2 c = bounds _ _ 1 _ (after-2 (c .before)) (c .if2 .taken)
-
-deepen-requires-3 : tie.Need-deepen-requires-3
-deepen-requires-3 c κs = walking _ _ 2 (after-2 (c .before)) 110 156 (omega arith) (lit< tt) refl refl
-
-returns-3 : tie.Need-returns-3
-returns-3 c = bounds _ _ 2 _ (after-3 (c .before)) (c .if3 .taken)
-
-deepen-requires-4 : tie.Need-deepen-requires-4
-deepen-requires-4 c κs = walking _ _ 3 (after-3 (c .before)) 210 272 (omega arith) (lit< tt) refl refl
-
-returns-4 : tie.Need-returns-4
-returns-4 c = bounds _ _ 3 _ (after-4 (c .before)) (c .if4 .taken)
-
-deepen-requires-5 : tie.Need-deepen-requires-5
-deepen-requires-5 c κs = walking _ _ 4 (after-4 (c .before)) 342 420 (omega arith) (lit< tt) refl refl
-
-returns-5 : tie.Need-returns-5
-returns-5 c = bounds _ _ 4 _ (after-5 c) (omega arith)
+returns : tie.Need-returns Inv-loop μ-loop
+returns c =
+    let l = c .before .before in
+    let d = l .before .before .before .args .d .pairs in
+    let f = ap (λ (t : Walk). t .x) (l .before .begin .ensures) in
+    let k : suc (pred d) ≡ d = omega (arith, l .before .before .before .pre .some) in
+    let g : l .loop .s .pairs ≡ suc (pred d) = omega (arith, l .before .before .before .pre .some) in
+    bounds _ _ (pred d) (l .loop .inv .0 ∙ ap (walk (l .before .begin .result .x)) g) ∙ ap₂ raisedBounds f k
 
 pub bounds-at-spec : {M : Type 1} → statement M
 bounds-at-spec =
     tie.close
     (tie.spec
+    Inv-loop
+    μ-loop
+    cast-depth
     begin-requires
-    deepen-requires
-    returns
-    deepen-requires-2
-    returns-2
-    deepen-requires-3
-    returns-3
-    deepen-requires-4
-    returns-4
-    deepen-requires-5
-    returns-5)
+    loop-holds
+    further-requires
+    loop-less
+    loop-again
+    returns)
