@@ -2,7 +2,10 @@
 ghost use mathlib.Core.Path.{_≡_};
 ghost use Rattle.ends.specs.Ends.{lowerEnd, upperEnd};
 ghost use Rattle.ends.specs.Entry.{orbitOf, questionOf, lowerRule, upperRule, flagged};
-ghost use Rattle.ends.specs.Fair.{Fair};
+ghost use Rattle.ends.specs.Fair.{Fair, Stage, Hopeless, endAt};
+ghost use Rattle.grid.specs.Grid.{one, H-units, T-units};
+ghost use Rattle.series.specs.Walk.{raise};
+ghost use Prim.Native.Nat.{_+_, _*_, _≤_};
 use grid::Angle;
 use grid::AngleOr;
 use grid::Depth;
@@ -10,6 +13,7 @@ use grid::DepthOr;
 use grid::Eccentricity;
 use grid::EccentricityOr;
 use grid::codes;
+use series::Walk;
 
 // One problem: the mean anomaly m and the eccentricity a / 2^28, both on the grid.
 pub struct Orbit {
@@ -44,13 +48,72 @@ const ONE: u64 = 268_435_456;
 
 const RAISE: u64 = 17_179_869_184;
 
-// Whether x is an accepted lower end. The bound comes raised, so both sides are raised: no number is below 0.
+// 2^28 X against 2^28 M + A bound, both raised by A 2^34, so that no number is below 0.
+fn level(o: Orbit, x: u64) -> u64
+    requires { ⌜ (o .a ≤ one) × (x ≤ T-units) ⌝ }
+    ensures { λ r. ⌜ r ≡ one * x + o .a * raise ⌝ }
+{
+    ONE * x + o.a * RAISE
+}
+
+fn against(o: Orbit, raised: u64) -> u64
+    requires { ⌜ (o .a ≤ one) × ((o .m ≤ H-units) × (raised ≤ 2 * raise)) ⌝ }
+    ensures { λ r. ⌜ r ≡ o .a * raised + one * o .m ⌝ }
+{
+    o.a * raised + ONE * o.m
+}
+
+// The end test at the depth that the walk has come to, for an end above the root or below it.
+fn accepts(o: Orbit, s: Walk, above: bool) -> bool
+    requires { ⌜ Stage o s ⌝ }
+    ensures { λ r. ⌜ r ≡ endAt above o (s .pairs) (s .x) ⌝ }
+{
+    if above {
+        against(o, s.hi) <= level(o, s.x)
+    } else {
+        level(o, s.x) <= against(o, s.lo)
+    }
+}
+
+// Whether the other bound at this depth lies on the wrong side: then no greater depth accepts either.
+fn hopeless(o: Orbit, s: Walk, above: bool) -> bool
+    requires { ⌜ Stage o s ⌝ }
+    ensures { λ r. ⌜ Hopeless r above o s ⌝ }
+{
+    if above {
+        level(o, s.x) < against(o, s.lo)
+    } else {
+        against(o, s.hi) < level(o, s.x)
+    }
+}
+
+// The end test at a depth, settled at the first depth that settles it.
+fn settle(o: Orbit, x: Angle, d: Depth, above: bool) -> bool
+    requires { ⌜ Fair o x d ⌝ }
+    ensures { λ r. ⌜ r ≡ endAt above o (d .pairs) (x .units) ⌝ }
+{
+    let depth = d.pairs as u64;
+    let mut s = series::begin(x.units);
+    loop {
+        s = series::further(s);
+        if accepts(o, s, above) {
+            return true;
+        }
+        if s.pairs == depth {
+            return false;
+        }
+        if hopeless(o, s, above) {
+            return false;
+        }
+    }
+}
+
+// Whether x is an accepted lower end.
 pub fn lower(o: Orbit, x: Angle, d: Depth) -> bool
     requires { ⌜ Fair o x d ⌝ }
     ensures { λ r. ⌜ r ≡ lowerEnd o (d .pairs) (x .units) ⌝ }
 {
-    let b = series::bounds_at(x, d);
-    ONE * x.units + o.a * RAISE <= o.a * b.lo + ONE * o.m
+    settle(o, x, d, false)
 }
 
 // Whether x is an accepted upper end.
@@ -58,8 +121,7 @@ pub fn upper(o: Orbit, x: Angle, d: Depth) -> bool
     requires { ⌜ Fair o x d ⌝ }
     ensures { λ r. ⌜ r ≡ upperEnd o (d .pairs) (x .units) ⌝ }
 {
-    let b = series::bounds_at(x, d);
-    o.a * b.hi + ONE * o.m <= ONE * x.units + o.a * RAISE
+    settle(o, x, d, true)
 }
 
 // An end to be tested, with all its numbers checked.

@@ -11,11 +11,11 @@ use Rattle.series.specs.declared.Raised.{Raised}
 -- the divisors of the pair after d pairs
 pub walking : (s : Walk) (d : ℕ) → Unfinished s → s .pairs ≡ d → Walking s (sine .divisor (suc (2 * d))) (sine .divisor (suc (suc (2 * d))))
 walking s d w e =
-    record
-      { going = w
-      ; odd = ap (λ (n : ℕ). sine .divisor (suc (2 * n))) (sym e)
-      ; even = ap (λ (n : ℕ). sine .divisor (suc (suc (2 * n)))) (sym e)
-      }
+    record {
+      going = w;
+      odd = ap (λ (n : ℕ). sine .divisor (suc (2 * n))) (sym e);
+      even = ap (λ (n : ℕ). sine .divisor (suc (suc (2 * n)))) (sym e);
+    }
 
 module _ (s : Walk) (X d : ℕ) (e : s ≡ walk X d) where
   pub unfinished : X ≤ T-units → d < depths → Unfinished s

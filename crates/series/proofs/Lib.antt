@@ -1,3 +1,4 @@
+pub mod Between
 pub mod Deeper
 pub mod Depths
 pub mod Factorial

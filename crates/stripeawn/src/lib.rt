@@ -2,7 +2,6 @@
 ghost use mathlib.Core.Path.{_≡_};
 ghost use Rattle.series.specs.Entry.{sineRule};
 ghost use Rattle.ends.specs.Entry.{lowerRule, upperRule};
-
 use ends::End;
 use series::SineBounds;
 
