@@ -2,7 +2,13 @@
 ghost use mathlib.Core.Path.{_≡_};
 ghost use Rattle.series.specs.Entry.{sineRule};
 ghost use Rattle.ends.specs.Entry.{lowerRule, upperRule};
+ghost use Rattle.enclosure.specs.Enclosure.{enclosureRule};
+ghost use Rattle.judge.specs.Judge.{judgeRule};
+
+use enclosure::Enclosure;
 use ends::End;
+use judge::Claim;
+use judge::Judged;
 use series::SineBounds;
 
 #[no_mangle]
@@ -24,4 +30,24 @@ pub extern "C" fn stripeawn_upper_end(x: u32, m: u32, a: u32, depth: u32) -> End
     ensures { λ r. ⌜ r ≡ upperRule x m a depth ⌝ }
 {
     ends::upper_end(x, m, a, depth)
+}
+
+#[no_mangle]
+pub extern "C" fn stripeawn_enclose(m: u32, a: u32, depth: u32) -> Enclosure
+    ensures { λ r. ⌜ r ≡ enclosureRule m a depth ⌝ }
+{
+    enclosure::enclose(m, a, depth)
+}
+
+#[no_mangle]
+pub extern "C" fn stripeawn_judge(m: u32, a: u32, estimate: f64, n: u32, depth: u32) -> Judged
+    ensures { λ r. ⌜ r ≡ judgeRule (record { m = m; a = a; estimate = estimate; n = n; depth = depth }) ⌝ }
+{
+    judge::judge(Claim {
+        m,
+        a,
+        estimate,
+        n,
+        depth,
+    })
 }

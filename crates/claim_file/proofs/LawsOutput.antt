@@ -1,0 +1,32 @@
+-- What the program writes, case by case. Assumes nothing.
+use mathlib.Core.Path.{_≡_, sym, ap}
+use mathlib.Core.List.{List, []}
+use Prim.Native.Nat.{ℕ, _%_, _/_, _≤_, _<_}
+use native.Mathlib.Omega.{arith}
+use borrow.Author.Tests.{lt-ltb, le-ltb}
+use lib.ListN.{length}
+use Rattle.claims.specs.Record.{twenty, answerAt}
+use Rattle.claims.specs.Batch.{upTo}
+use Rattle.claims.specs.declared.Batch.{Batch}
+use Rattle.claims.proofs.LawsBatch.{rule-length, rule-done}
+use Rattle.claim_file.specs.File.{most-bytes, most-claims, output}
+
+module _ (input : List ℕ) where
+  abbrev answers : Batch → List ℕ
+  answers r = upTo (answerAt twenty input) (r .count)
+
+  -- "for longer input .. it writes nothing"
+  pub longer : most-bytes < length input → output input ≡ []
+  unfolding output
+  longer h = rw (lt-ltb _ _ h)
+
+  -- "or code 7"
+  pub cut : length input ≤ most-bytes → (length input % twenty .width ≡ 0 → ⊥) → output input ≡ []
+  unfolding output upTo
+  cut h e = rw (le-ltb _ _ h) (ap answers (sym (rule-length twenty (length input) most-claims e)))
+
+  -- "exactly the answer bytes": one for each claim, since there is room for all
+  pub whole : length input ≤ most-bytes → length input % twenty .width ≡ 0
+      → output input ≡ upTo (answerAt twenty input) (length input / twenty .width)
+  unfolding output
+  whole h e = rw (le-ltb _ _ h) (ap answers (sym (rule-done twenty (length input) most-claims e (omega arith))))

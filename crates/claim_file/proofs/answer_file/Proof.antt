@@ -1,0 +1,38 @@
+-- `claim_file::answer_file` meets its contract: the answers stand at the buffer's start, as many as the batch counted. Assumes nothing.
+use borrow.Author.Needs.{needs}
+use borrow.Author.Tests.{lt-ltb, le-ltb}
+use mathlib.Core.Path.{_≡_, refl, sym}
+use Prim.Native.Nat.{_≤_, zero-le}
+use native.Mathlib.Omega.{arith}
+use lib.ListN.{length}
+use lib.Seq.{length-take-le}
+use denote.Ref.{now}
+use Rattle.claims.specs.Record.{twenty}
+use Rattle.claims.proofs.LawsBatch.{count-fits}
+use Rattle.claims.proofs.LawsAnswers.{length-kept, answers-first}
+use Rattle.claim_file.specs.File.{output, most-claims}
+use Rattle.claim_file.proofs.answer_file.Statement.{statement}
+use Rattle.claim_file.proofs.answer_file.Tie as tie
+
+returns : tie.Need-returns
+unfolding output
+returns c = ((zero-le, refl), rw (lt-ltb _ _ (c .if1 .taken)))
+
+judge-claims-requires : tie.Need-judge-claims-requires
+judge-claims-requires c κs = search needs
+
+returns-2 : tie.Need-returns-2
+unfolding output
+returns-2 c =
+    let a = c .before .before .before .before .args in
+    let call = c .judge-claims in
+    let room : length (now (a .answers)) ≡ most-claims = omega arith in
+    let kept = length-kept twenty (now (a .input)) (now (a .answers)) in
+    let most = count-fits twenty (length (now (a .input))) (length (now (a .answers))) in
+    let fits : call .result .count ≤ length (call .last .1 .0) = rw (call .ensures .0, call .ensures .1, kept) most in (
+      (fits, sym (length-take-le _ _ fits)),
+      rw (le-ltb _ _ (c .before .before .if1 .left), call .ensures .0, call .ensures .1, answers-first, room),
+    )
+
+pub answer-file-spec : {M : Type 1} → statement M
+answer-file-spec = tie.close (tie.spec returns judge-claims-requires returns-2)

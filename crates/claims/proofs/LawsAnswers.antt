@@ -1,0 +1,102 @@
+-- What a batch's contract says byte by byte: below the count the record's answer, from the count on what was there. Assumes nothing.
+use mathlib.Core.Path.{_≡_, refl, sym, ap, _∙_}
+use mathlib.Core.Bool.{Bool, true, false}
+use mathlib.Core.Logic.{⊎-elim}
+use mathlib.Core.List.{List, [], _∷_, _++_}
+use Prim.Native.Nat.{ℕ, zero, suc, _+_, _-_, _*_, _≤_, _<_}
+use native.Mathlib.Nat.{eq-or-lt-of-le, le-of-suc-le-suc, div-add-mod'}
+use native.Mathlib.Omega.{arith}
+use borrow.Author.Tests.{ltb-true, ltb-false}
+use lib.Dec.{ltb}
+use lib.ListN.{length, take, drop, getD, List·getD-append}
+use lib.Seq.{take-at, getD-at, getD-append-add, getD-drop, ext-getD}
+use Rattle.claims.specs.Record.{Form, answerAt}
+use Rattle.claims.specs.Batch.{batchRule, upTo, written, answersAfter}
+use Rattle.claims.specs.declared.Batch.{Batch}
+use Rattle.claims.proofs.LawsBatch.{length-upTo, length-written, written-none, count-fits, of-batch}
+
+pub upTo-at : (f : ℕ → ℕ) (n i : ℕ) → i < n → getD (upTo f n) i 0 ≡ f i
+unfolding upTo
+upTo-at f zero i h = absurd (let k : ⊥ = omega arith in k)
+upTo-at f (suc n) i h =
+    ⊎-elim
+    (λ e. rw e (getD-at (upTo f n) (f n) [] 0 n (length-upTo f n)))
+    (λ l.
+    List·getD-append (upTo f n) (f n ∷ []) 0 i (let k = length-upTo f n in omega arith) ∙ upTo-at f n i l)
+    (eq-or-lt-of-le (le-of-suc-le-suc h))
+
+module _ (form : Form) (claims before : List ℕ) (n : ℕ) where
+  written-below : (i : ℕ) → i < n → getD (written form claims n before) i 0 ≡ answerAt form claims i
+  written-below i h =
+      let f = answerAt form claims in
+      List·getD-append (upTo f n) (drop n before) 0 i (let k = length-upTo f n in omega arith) ∙ upTo-at f n i h
+
+  written-above : (i : ℕ) → n ≤ i → getD (written form claims n before) i 0 ≡ getD before i 0
+  written-above i h =
+      let f = answerAt form claims in
+      let k = length-upTo f n in
+      let past : length (upTo f n) + (i - n) ≡ i = omega arith in
+      let back : n + (i - n) ≡ i = omega arith in
+      ap (λ (j : ℕ). getD (upTo f n ++ drop n before) j 0) (sym past)
+      ∙ getD-append-add (upTo f n) (drop n before) (i - n) 0
+      ∙ getD-drop n before (i - n) 0
+      ∙ ap (λ (j : ℕ). getD before j 0) back
+
+module _ (form : Form) (bytes room : ℕ) where
+  -- "It returns code 0 and the count": no byte of the claims is left over
+  pub done-count : batchRule form bytes room .code ≡ 0 → batchRule form bytes room .count * form .width ≡ bytes
+  done-count =
+      of-batch form bytes room (λ (r : Batch). r .code ≡ 0 → r .count * form .width ≡ bytes)
+      (λ z. absurd (let k : ⊥ = omega arith in k)) (λ z. absurd (let k : ⊥ = omega arith in k))
+      (λ e h z. omega (arith, div-add-mod' bytes (form .width)))
+
+  -- "With a code other than 0, all other returned numbers are 0"
+  pub refused-count : (batchRule form bytes room .code ≡ 0 → ⊥) → batchRule form bytes room .count ≡ 0
+  refused-count =
+      of-batch form bytes room (λ (r : Batch). (r .code ≡ 0 → ⊥) → r .count ≡ 0) (λ z. refl) (λ z. refl)
+      (λ e h z. absurd (z refl))
+
+module _ (form : Form) (claims before : List ℕ) where
+  abbrev counted : ℕ
+  counted = batchRule form (length claims) (length before) .count
+
+  pub length-kept : length (answersAfter form claims before) ≡ length before
+  unfolding answersAfter
+  length-kept = length-written form claims before counted (count-fits form (length claims) (length before))
+
+  -- "The batch writes one byte per claim"
+  pub byte-answered : (i : ℕ) → i < batchRule form (length claims) (length before) .count
+      → getD (answersAfter form claims before) i 0 ≡ answerAt form claims i
+  unfolding answersAfter
+  byte-answered = written-below form claims before counted
+
+  -- "Answer bytes beyond the count stay"
+  pub byte-kept : (i : ℕ) → batchRule form (length claims) (length before) .count ≤ i
+      → getD (answersAfter form claims before) i 0 ≡ getD before i 0
+  unfolding answersAfter
+  byte-kept = written-above form claims before counted
+
+  -- no other buffer is as long and has these bytes
+  pub only-answers : (after : List ℕ) → length after ≡ length before
+      → ((i : ℕ) → i < batchRule form (length claims) (length before) .count → getD after i 0 ≡ answerAt form claims i)
+      → ((i : ℕ) → batchRule form (length claims) (length before) .count ≤ i → getD after i 0 ≡ getD before i 0)
+      → after ≡ answersAfter form claims before
+  only-answers after same below above =
+      ext-getD 0 after (answersAfter form claims before) (same ∙ sym length-kept) (λ i h. agree i (ltb i counted) refl)
+    where
+      agree : (i : ℕ) (t : Bool) → ltb i counted ≡ t → getD after i 0 ≡ getD (answersAfter form claims before) i 0
+      agree i true t = let k = ltb-true _ _ t in below i k ∙ sym (byte-answered i k)
+      agree i false t = let k = ltb-false _ _ t in above i k ∙ sym (byte-kept i k)
+
+  -- "Codes 7 and 8 write nothing"
+  pub refused-kept : (batchRule form (length claims) (length before) .code ≡ 0 → ⊥) → answersAfter form claims before ≡ before
+  unfolding answersAfter
+  refused-kept h =
+      ap (λ (n : ℕ). written form claims n before) (refused-count form (length claims) (length before) h)
+      ∙ sym (written-none form claims before)
+
+  -- the answers stand at the buffer's start
+  pub answers-first : take (batchRule form (length claims) (length before) .count) (answersAfter form claims before)
+      ≡ upTo (answerAt form claims) (batchRule form (length claims) (length before) .count)
+  unfolding answersAfter
+  answers-first = take-at _ _ counted (length-upTo (answerAt form claims) counted)

@@ -1,0 +1,45 @@
+-- What a record's answer can be. Assumes nothing.
+use mathlib.Core.List.{List, [], _∷_}
+use Prim.Native.Nat.{ℕ, _+_, _*_, _≤_, _<_}
+use native.Mathlib.Omega.{arith}
+use lib.ListN.{getD}
+use Rattle.grid.specs.Grid.{N-units}
+use Rattle.grid.proofs.Each.{of-answer}
+use Rattle.judge.specs.Judge.{judgeRule}
+use Rattle.judge.specs.Verdict.{verdictNumber}
+use Rattle.judge.specs.declared.Judged.{Judged}
+use Rattle.judge.specs.declared.Verdict.{Verdict}
+use Rattle.judge.specs.declared.Verdict.the-variants.{Confirmed, Refuted, Undecided}
+use Rattle.judge.proofs.Small.{of-judged}
+use Rattle.claims.specs.Record.{twenty, reserved-check, byteOf, claimAt, answerAt}
+use Rattle.claims.proofs.LawsLittle.{little-small}
+
+-- "16 Confirmed, 17 Refuted, 18 Undecided, or the record's code 9, 1, 2, 3 or 4"
+pub data Answer : ℕ → Type 0 where
+  confirmed : Answer 16
+  refuted : Answer 17
+  undecided : Answer 18
+  reserved-not-zero : Answer 9
+  m-above-H : Answer 1
+  a-above-one : Answer 2
+  depth-not-1-to-5 : Answer 3
+  estimate-off-range : Answer 4
+
+of-verdict : (v : Verdict) → Answer (byteOf (record { code = 0; verdict = verdictNumber v }))
+of-verdict Confirmed = confirmed
+of-verdict Refuted = refuted
+of-verdict Undecided = undecided
+
+module _ (bytes : List ℕ) (small : (k : ℕ) → getD bytes k 0 < 256) (i : ℕ) where
+  -- two bytes hold no tolerance above its limit
+  n-fits : claimAt twenty bytes i .n ≤ N-units
+  n-fits = let h = little-small bytes small (i * 20 + 16) 2 in omega arith
+
+  pub one-of-eight : Answer (answerAt twenty bytes i)
+  unfolding answerAt
+  one-of-eight =
+      of-answer Answer (λ (code : ℕ). code) (byteOf (judgeRule (claimAt twenty bytes i)))
+      (reserved-check twenty bytes (i * 20) ∷ []) (λ t. reserved-not-zero, tt)
+      (λ p.
+      of-judged (λ (j : Judged). Answer (byteOf j)) (claimAt twenty bytes i) m-above-H a-above-one depth-not-1-to-5
+      estimate-off-range (λ h. absurd (let k : ⊥ = let g = n-fits in omega arith in k)) of-verdict)

@@ -1,0 +1,5 @@
+pub mod LawsLittle
+pub mod LawsDouble
+pub mod LawsBatch
+pub mod LawsAnswers
+pub mod LawsRecord

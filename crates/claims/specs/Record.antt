@@ -1,0 +1,73 @@
+-- A claim's record and the byte that answers it: the section "Claim records".
+use Prim.Native.Nat.{ℕ, _+_, _*_}
+use mathlib.Core.Bool.{not, cond}
+use mathlib.Core.List.{List, [], _∷_}
+use lib.Dec.{eqb}
+use lib.Ieee.{binary64, ofBits}
+use Rattle.grid.specs.Codes.{Check, answer, reserved-not-zero}
+use Rattle.judge.specs.Judge.{judgeRule}
+use Rattle.judge.specs.declared.Claim.{Claim}
+use Rattle.judge.specs.declared.Judged.{Judged}
+use Rattle.claims.specs.LittleEndian.{littleEndian}
+
+-- where a field stands in its record, and how many bytes it has
+pub record Field : Type 0 where
+  pub at : ℕ
+  pub bytes : ℕ
+
+-- a record's width and its fields
+pub record Form : Type 0 where
+  pub width : ℕ
+  pub m : Field
+  pub a : Field
+  pub estimate : Field
+  pub n : Field
+  pub depth : Field
+  pub reserved : Field
+
+-- "20 bytes, little-endian, no header: M (4), A (4), estimate bits (8), N (2), depth (1), reserved (1, zero)"
+abbrev pub twenty : Form
+twenty =
+    record {
+      width = 20;
+      m = record { at = 0; bytes = 4 };
+      a = record { at = 4; bytes = 4 };
+      estimate = record { at = 8; bytes = 8 };
+      n = record { at = 16; bytes = 2 };
+      depth = record { at = 18; bytes = 1 };
+      reserved = record { at = 19; bytes = 1 };
+    }
+
+-- a field of the record that starts at a place
+abbrev pub valueOf : List ℕ → ℕ → Field → ℕ
+valueOf bytes start f = littleEndian bytes (start + f .at) (f .bytes)
+
+-- the claim of the record that starts at a place; every NaN pattern is the one NaN value
+abbrev pub claimFrom : Form → List ℕ → ℕ → Claim
+claimFrom form bytes start =
+    record {
+      m = valueOf bytes start (form .m);
+      a = valueOf bytes start (form .a);
+      estimate = ofBits binary64 (valueOf bytes start (form .estimate));
+      n = valueOf bytes start (form .n);
+      depth = valueOf bytes start (form .depth);
+    }
+
+-- "reserved byte of a claim not zero"
+abbrev pub reserved-check : Form → List ℕ → ℕ → Check
+reserved-check form bytes start =
+    record { fails = not (eqb (valueOf bytes start (form .reserved)) 0); code = reserved-not-zero }
+
+-- "16 Confirmed, 17 Refuted, 18 Undecided, or the record's code": the code where there is one, else the verdict's number
+abbrev pub byteOf : Judged → ℕ
+byteOf j = cond (eqb (j .code) 0) (j .verdict) (j .code)
+
+-- record i is the one that starts at i times the width
+abbrev pub claimAt : Form → List ℕ → ℕ → Claim
+claimAt form bytes i = claimFrom form bytes (i * form .width)
+
+-- "The batch writes one byte per claim": that of record i, where code 9 comes first
+unfoldable pub answerAt : Form → List ℕ → ℕ → ℕ
+answerAt form bytes i =
+    answer (reserved-check form bytes (i * form .width) ∷ []) (λ (code : ℕ). code)
+    (byteOf (judgeRule (claimAt form bytes i)))

@@ -1,0 +1,6 @@
+pub mod Branches
+pub mod Checks
+pub mod Laws
+pub mod Entry
+pub mod Numbers
+pub mod Small

@@ -1,0 +1,4 @@
+// The program of judge_claims, on an input of one claim too many: it writes nothing.
+fn main() {
+    claim_file::run();
+}

@@ -1,0 +1,100 @@
+-- f and c are the floor and the ceiling of the product, they differ by one at most, and neither is above T. Assumes nothing.
+use mathlib.Core.Path.{_≡_, refl, subst}
+use mathlib.Core.Logic.{_↔_}
+use mathlib.Core.Bool.{Bool, true, false, _&&_, true≢false}
+use Prim.Native.Nat.{ℕ, _+_, _*_, _≤_, _<_}
+use native.Mathlib.Nat.{le-of-eq, le-antisymm}
+use native.Mathlib.Omega.{arith}
+use mathlib.Core.List.{[], _∷_}
+use lib.Dec.{ltb}
+use lib.IntN.{pos, negsuc}
+use borrow.Author.Tests.{ltb-false}
+use lib.Ieee.{Float, nan, inf, fin, binary64, ofBits}
+use lib.Ieee.Positive.{den, den-pos}
+use Rattle.whole.specs.Round.{down, up}
+use Rattle.whole.proofs.Round.{down-le, lt-down, le-up, up-lt, up-le, down-le-up}
+use Rattle.grid.specs.Grid.{T-units}
+use Rattle.grid.specs.Codes.{or}
+use Rattle.units.specs.Units.{product, floorAndCeiling, offRange, estimate-check, unitsOf}
+use Rattle.units.specs.declared.Units.{Units}
+use Rattle.units.specs.declared.UnitsOr.the-variants.{Made, Refused}
+use Rattle.grid.proofs.Made.{was-made, value-made}
+use Rattle.units.proofs.Enum.{unit-answers}
+use Rattle.units.proofs.Rounding.{up-whole, up-le-next}
+
+-- f and c are a / d rounded down and up, both are at most T, and they are equal exactly where the quotient is whole
+pub record Rounded (a d f c : ℕ) : Type 0 where
+  pub floor-least : f * d ≤ a
+  pub floor-most : a < (f + 1) * d
+  pub ceiling-least : a ≤ c * d
+  pub ceiling-most : c * d < a + d
+  pub ordered : f ≤ c
+  pub next : c ≤ f + 1
+  pub whole : c ≡ f ↔ a ≡ f * d
+  pub limit : c ≤ T-units
+
+or-last : (a b : Bool) → or a b ≡ false → b ≡ false
+or-last true b h = absurd (true≢false h)
+or-last false b h = h
+
+-- an estimate that is not refused is at most T units
+not-above : (x : Float) → offRange x ≡ false → product x ≤ T-units * den x
+unfolding offRange
+not-above nan h = absurd (true≢false h)
+not-above (inf s) h = absurd (true≢false h)
+not-above (fin s m e) h =
+    let x = fin s m e in
+    let above = ltb (T-units * den x) (product x) in
+    ltb-false (T-units * den x) (product x) (or-last (s && ltb 0 m) above h)
+
+rounded : (a d : ℕ) → 0 < d → a ≤ T-units * d → Rounded a d (down a d) (up a d)
+rounded a d D h =
+    let least = down-le a d in
+    let above = le-up a d D in
+    record {
+      floor-least = least;
+      floor-most = let k = lt-down a d D in omega arith;
+      ceiling-least = above;
+      ceiling-most = up-lt a d D;
+      ordered = down-le-up a d D;
+      next = up-le-next a d D;
+      whole = (λ e. le-antisymm (subst (λ (n : ℕ). a ≤ n * d) e above) least, λ e. up-whole a d D (le-of-eq e));
+      limit = up-le T-units a d D h;
+    }
+
+-- an estimate whose check passes
+pub in-range-rounded : (x : Float) → estimate-check x .fails ≡ false
+    → Rounded (product x) (den x) (floorAndCeiling x .f) (floorAndCeiling x .c)
+in-range-rounded x h = rounded (product x) (den x) (den-pos x) (not-above x h)
+
+-- whatever is made
+pub made-rounded : (x : Float) (u : Units) → unitsOf x ≡ Made u → Rounded (product x) (den x) (u .f) (u .c)
+made-rounded x u h =
+    let g = was-made unit-answers (floorAndCeiling x) (estimate-check x ∷ []) (unitsOf x) u refl h in
+    let e = value-made unit-answers (floorAndCeiling x) (estimate-check x ∷ []) (unitsOf x) u refl h in
+    rw e (in-range-rounded x (g .passed .0))
+
+-- ---- numbers to hold against
+
+-- "Estimate 2^-1074: f = 0, c = 1"
+pub smallest : unitsOf (fin false 1 (negsuc 1073)) ≡ Made (record { f = 0; c = 1 })
+unfolding offRange
+smallest = refl
+
+pub smallest-bits : ofBits binary64 1 ≡ fin false 1 (negsuc 1073)
+unfolding ofBits
+smallest-bits = refl
+
+-- "Negative zero counts as 0"
+pub negative-zero : unitsOf (fin true 0 (pos 0)) ≡ Made (record { f = 0; c = 0 })
+unfolding offRange
+negative-zero = refl
+
+-- T units are accepted, the next double above them has code 4
+pub at-limit : unitsOf (ofBits binary64 0x400921fb74000000) ≡ Made (record { f = T-units; c = T-units })
+unfolding offRange ofBits
+at-limit = refl
+
+pub past-limit : unitsOf (ofBits binary64 0x400921fb74000001) ≡ Refused 4
+unfolding offRange ofBits
+past-limit = refl

@@ -1,0 +1,6 @@
+pub mod Enum
+pub mod Value
+pub mod Scaled
+pub mod Rounding
+pub mod Estimate
+pub mod Laws
