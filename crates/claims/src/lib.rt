@@ -10,6 +10,7 @@ mod little;
 mod record;
 
 // What a batch returns: its code, and how many claims were answered.
+#[repr(C)]
 pub struct Batch {
     pub code: u32,
     pub count: u64,

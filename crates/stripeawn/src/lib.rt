@@ -3,8 +3,11 @@ ghost use mathlib.Core.Path.{_≡_};
 ghost use Rattle.series.specs.Entry.{sineRule};
 ghost use Rattle.ends.specs.Entry.{lowerRule, upperRule};
 ghost use Rattle.enclosure.specs.Enclosure.{enclosureRule};
+ghost use lib.ListN.{length};
 ghost use Rattle.judge.specs.Judge.{judgeRule};
-
+ghost use Rattle.claims.specs.Record.{twenty};
+ghost use Rattle.claims.specs.Batch.{batchRule, answersAfter};
+use claims::Batch;
 use enclosure::Enclosure;
 use ends::End;
 use judge::Claim;
@@ -50,4 +53,12 @@ pub extern "C" fn stripeawn_judge(m: u32, a: u32, estimate: f64, n: u32, depth: 
         n,
         depth,
     })
+}
+
+#[no_mangle]
+pub extern "C" fn stripeawn_judge_claims(claims: &[u8], answers: &mut [u8]) -> Batch
+    ensures { λ r. ⌜ r ≡ batchRule twenty (length (now (claims .entry))) (length (now (answers .entry))) ⌝ }
+    ensures { λ r. ⌜ now (answers .exit) ≡ answersAfter twenty (now (claims .entry)) (now (answers .entry)) ⌝ }
+{
+    claims::judge_claims(claims, answers)
 }

@@ -1,0 +1,33 @@
+/*
+** plain.h: the rules of the library once more, in plain C.
+**
+** bench.c measures the library against these functions, so they give the
+** same answer to every input and use the library's own result types.
+*/
+#ifndef PLAIN_H
+#define PLAIN_H
+
+#include "stripeawn.h"
+
+struct stripeawn_bounds plain_sine(uint32_t x, uint32_t depth);
+
+struct stripeawn_end plain_lower_end(uint32_t x, uint32_t m, uint32_t a,
+                                     uint32_t depth);
+
+struct stripeawn_end plain_upper_end(uint32_t x, uint32_t m, uint32_t a,
+                                     uint32_t depth);
+
+struct stripeawn_enclosure plain_enclose(uint32_t m, uint32_t a,
+                                         uint32_t depth);
+
+struct stripeawn_proposal plain_propose(uint32_t m, uint32_t a);
+
+struct stripeawn_verdict plain_judge(uint32_t m, uint32_t a, double estimate,
+                                     uint32_t n, uint32_t depth);
+
+struct stripeawn_batch plain_judge_claims(const uint8_t *claims,
+                                          size_t claims_len,
+                                          uint8_t *answers,
+                                          size_t answers_len);
+
+#endif

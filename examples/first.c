@@ -1,0 +1,23 @@
+/* first.c: encloses the root of one orbit and judges an estimate of it. */
+#include <stdio.h>
+
+#include "stripeawn.h"
+
+int main(void)
+{
+    const double radian = STRIPEAWN_RADIAN;
+    uint32_t m = 100000000, a = 241591910; /* M = 0.37253 rad, e = 0.9 */
+    double estimate = 1.21669;             /* what some solver found */
+    struct stripeawn_enclosure e = stripeawn_enclose(m, a, 5);
+    struct stripeawn_verdict v = stripeawn_judge(m, a, estimate, 100, 5);
+
+    if (e.code != STRIPEAWN_DONE || v.code != STRIPEAWN_DONE)
+        return 1;
+    printf("M = %.8f rad, e = %.8f\n", m / radian, a / radian);
+    printf("E lies between %.8f and %.8f rad: %u to %u units\n", e.a / radian,
+           e.b / radian, (unsigned)e.a, (unsigned)e.b);
+    printf("%.8f rad, give or take 100 units: %s\n", estimate,
+           v.verdict == STRIPEAWN_CONFIRMED ? "Confirmed"
+           : v.verdict == STRIPEAWN_REFUTED ? "Refuted" : "Undecided");
+    return 0;
+}

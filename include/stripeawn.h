@@ -1,0 +1,298 @@
+/*
+** stripeawn.h: certified answers to Kepler's equation, E - e sin E = M.
+**
+** M is the mean anomaly, E the eccentric anomaly, e the eccentricity, from
+** the circle (e = 0) to the parabolic limit (e = 1). Whatever solver found
+** an E, this library says what is certain about it.
+**
+** Units. An angle is a whole number of units of 2^-28 radian, some 0.0008
+** arcseconds. The eccentricity is A / 2^28 for a whole number A. M and A are
+** taken as exact: every answer is about the equation with just these two
+** numbers. Rounding another M or e to the grid is the caller's step, and it
+** moves the root.
+**
+** Ends. A lower end X is accepted when whole-number bounds of sine show that
+** X - M <= e sin X, so that the root is not below X. An upper end X is
+** accepted when they show that X - M >= e sin X, so that the root is not
+** above X. Accepted ends meet, in exact fractions, even
+**
+**     X - M <= e S9(X)  (lower)    and    X - M >= e S10(X)  (upper)
+**
+** with S9 and S10 the Taylor sums of sine up to degree 19 and 21. An end
+** that is not accepted says nothing: a greater depth may accept it.
+**
+** Depth. How many pairs of Taylor terms the bounds use, 1 to 5. What one
+** depth accepts every greater depth accepts. At depth 5 an end is refused
+** only where its exact inequality fails or has less than 32 e units to
+** spare. No accepted lower end lies above an accepted upper end of the same
+** M and A, whatever the two depths.
+**
+** Notes on every entry:
+** 1) A result begins with a code. With a code other than 0 every other
+**    number of the result is 0 and lent buffers are as before the call.
+** 2) Any number may be passed; one outside its limit is answered by its
+**    code. Where several codes apply, the answer is the one that stands
+**    first in the list under Status, which is in this fixed order.
+** 3) No entry keeps state, so any number of threads may call at once. None
+**    uses the heap or calls the operating system, and each ends after a
+**    bounded number of steps on a bounded stack (64 KiB is ample).
+** 4) The entries that take an estimate want the processor's usual handling
+**    of subnormal doubles. A program linked with -ffast-math may have them
+**    read as zeros; the judge then sees another estimate than the one meant.
+*/
+#ifndef STRIPEAWN_INCLUDED
+#define STRIPEAWN_INCLUDED
+
+#include <stddef.h>
+#include <stdint.h>
+
+#ifdef __cplusplus
+extern "C" {
+#endif
+
+/* Limits: the greatest value taken. */
+#define STRIPEAWN_M_MAX 843314856u    /* H, the whole part of pi 2^28      */
+#define STRIPEAWN_X_MAX 843314920u    /* T = H + 64, a tested angle        */
+#define STRIPEAWN_A_MAX 268435456u    /* 2^28, which is eccentricity one   */
+#define STRIPEAWN_DEPTH_MAX 5u        /* the least depth is 1              */
+#define STRIPEAWN_N_MAX 65535u        /* tolerance, in units               */
+
+#define STRIPEAWN_RADIAN 268435456u   /* units in one radian, 2^28         */
+#define STRIPEAWN_CLAIM_BYTES 20u     /* size of a claim record            */
+
+/*
+** Codes. Each is given exactly when its condition holds and no code before
+** it in the entry's order applies. The order over all entries is 9, 1, 2, 3,
+** 10, 4, 5, 6; in a batch, 7 and then 8 come before any record is read.
+*/
+#define STRIPEAWN_DONE 0u             /* done                              */
+#define STRIPEAWN_BAD_M 1u            /* M above H                         */
+#define STRIPEAWN_BAD_A 2u            /* A above 2^28                      */
+#define STRIPEAWN_BAD_DEPTH 3u        /* depth not 1 to 5                  */
+#define STRIPEAWN_BAD_ESTIMATE 4u     /* estimate NaN, infinite, below     */
+                                      /*   zero or above T units           */
+#define STRIPEAWN_BAD_N 5u            /* N above 65535                     */
+#define STRIPEAWN_NO_UPPER_END 6u     /* enclosure: T is not accepted as   */
+                                      /*   an upper end at this depth      */
+#define STRIPEAWN_BAD_LENGTH 7u       /* claims length no multiple of 20   */
+#define STRIPEAWN_SHORT_ANSWERS 8u    /* answers buffer shorter than the   */
+                                      /*   number of claims                */
+#define STRIPEAWN_BAD_RESERVED 9u     /* reserved byte of a claim not zero */
+#define STRIPEAWN_BAD_X 10u           /* angle X above T                   */
+
+/* Verdicts, on an estimate and a tolerance of N units. */
+#define STRIPEAWN_CONFIRMED 16u       /* the root is within N units of it  */
+#define STRIPEAWN_REFUTED 17u         /* the root is more than N units off */
+#define STRIPEAWN_UNDECIDED 18u       /* this depth cannot tell            */
+
+/* Results. */
+struct stripeawn_bounds {
+    uint32_t code;
+    int64_t lo, hi;                   /* units; may be below zero          */
+};
+
+struct stripeawn_end {
+    uint32_t code;
+    uint32_t accepted;                /* 1 accepted, 0 not                 */
+};
+
+struct stripeawn_enclosure {
+    uint32_t code;
+    uint32_t a, b;                    /* lower and upper end, units        */
+};
+
+struct stripeawn_proposal {
+    uint32_t code;
+    uint32_t angle;                   /* proposed E, units, 0 to T         */
+    int64_t e_sin, e_cos;             /* near e sin E and e cos E, units   */
+    uint32_t j;                       /* certificate, 0 to 30              */
+};
+
+struct stripeawn_verdict {
+    uint32_t code;
+    uint32_t verdict;                 /* 16, 17 or 18                      */
+};
+
+struct stripeawn_batch {
+    uint32_t code;
+    uint64_t count;                   /* claims answered                   */
+};
+
+/*
+** stripeawn_sine: whole-number bounds of the sine of an angle.
+**
+** Given:
+**    x       angle, units, 0 to T
+**    depth   1 to 5
+** Returned:
+**    lo      lower bound of 2^28 sin(x / 2^28)
+**    hi      upper bound of it
+** Status:
+**    3 = depth not 1 to 5
+**    10 = x above T
+**    0 = done
+** Notes:
+** 1) lo is at most 2^28 S9(x) and hi at least 2^28 S10(x), at every depth.
+**    With greater depth lo never falls and hi never rises. At depth 5 they
+**    are at most 32 units apart.
+** 2) Near T lo is below zero at every depth, and hi at depths 4 and 5.
+*/
+struct stripeawn_bounds stripeawn_sine(uint32_t x, uint32_t depth);
+
+/*
+** stripeawn_lower_end: is the root certainly not below x?
+** stripeawn_upper_end: is the root certainly not above x?
+**
+** Given:
+**    x       angle to test, units, 0 to T
+**    m       M, units, 0 to H
+**    a       A, 0 to 2^28
+**    depth   1 to 5
+** Returned:
+**    accepted   lower: 1 where 2^28 (x - m) <= a lo, otherwise 0
+**               upper: 1 where 2^28 (x - m) >= a hi, otherwise 0
+**               (lo and hi as stripeawn_sine gives them at x)
+** Status:
+**    1 = M above H
+**    2 = A above 2^28
+**    3 = depth not 1 to 5
+**    10 = x above T
+**    0 = done
+** Notes:
+** 1) As a lower end 0 is always accepted and T never.
+** 2) Both ends may be accepted at one angle, which is then the root, or
+**    neither. The accepted angles need not be one unbroken run.
+*/
+struct stripeawn_end stripeawn_lower_end(uint32_t x, uint32_t m, uint32_t a,
+                                         uint32_t depth);
+
+struct stripeawn_end stripeawn_upper_end(uint32_t x, uint32_t m, uint32_t a,
+                                         uint32_t depth);
+
+/*
+** stripeawn_enclose: two angles with the root between them.
+**
+** Given:
+**    m       M, units, 0 to H
+**    a       A, 0 to 2^28
+**    depth   1 to 5
+** Returned:
+**    a       an accepted lower end, where a + 1 is not accepted
+**    b       an accepted upper end, where b - 1 is not accepted or b is 0
+** Status:
+**    1 = M above H
+**    2 = A above 2^28
+**    3 = depth not 1 to 5
+**    6 = T is not accepted as an upper end at this depth
+**    0 = done
+** Notes:
+** 1) Depths 4 and 5 never answer 6.
+** 2) Where two depths both answer 0, the enclosure of the greater depth lies
+**    within the other.
+** 3) Near the parabolic limit an enclosure is as wide as the problem makes
+**    it: with e close to 1 and M close to 0, one unit more in M moves the
+**    root by many thousands.
+*/
+struct stripeawn_enclosure stripeawn_enclose(uint32_t m, uint32_t a,
+                                             uint32_t depth);
+
+/*
+** stripeawn_propose: a shift-and-add solution, with its certificate.
+**
+** Given:
+**    m       M, units, 0 to H
+**    a       A, 0 to 2^28
+** Returned:
+**    angle   the proposed E, units, 0 to T
+**    e_sin   near e sin E, units
+**    e_cos   near e cos E, units
+**    j       the root is within 2^j units of angle
+** Status:
+**    1 = M above H
+**    2 = A above 2^28
+**    0 = done
+** Notes:
+** 1) j is the smallest number from 0 to 30 for which angle - 2^j, or 0 where
+**    that is below 0, is an accepted lower end and angle + 2^j, or T where
+**    that is above T, an accepted upper end, both at depth 5. One always
+**    exists. Nothing more is promised of how good angle is.
+** 2) e_sin and e_cos are what fifty rotations with shifts 0, 0, 1, 1, up to
+**    24, 24 give. No bound of their error is promised.
+*/
+struct stripeawn_proposal stripeawn_propose(uint32_t m, uint32_t a);
+
+/*
+** stripeawn_judge: is an estimate within n units of the root?
+**
+** Given:
+**    m          M, units, 0 to H
+**    a          A, 0 to 2^28
+**    estimate   angle in radians, 0 to T / 2^28; minus zero counts as 0
+**    n          tolerance, units, 0 to 65535
+**    depth      1 to 5
+** Returned:
+**    verdict    16 Confirmed, 17 Refuted, 18 Undecided
+** Status:
+**    1 = M above H
+**    2 = A above 2^28
+**    3 = depth not 1 to 5
+**    4 = estimate NaN, infinite, below zero or above T units
+**    5 = n above 65535
+**    0 = done
+** Notes:
+** 1) Confirmed promises that the root is at most n units from the estimate,
+**    Refuted that it is more than n units away; both mean the estimate's
+**    exact value, on the grid or off it. Undecided promises nothing.
+** 2) No verdict speaks of the residual E - e sin E - M, which may be small
+**    far from the root, nor of how well M and A describe an orbit.
+** 3) A claim Confirmed or Refuted at one depth has the same verdict at every
+**    greater depth.
+** 4) A wider tolerance may lose a verdict: M = 0, e = 1, estimate 0 is
+**    Confirmed at n = 0 and Undecided at n = 1. The verdict at n = 0 is
+**    still true, and so the root is within 1 unit too.
+*/
+struct stripeawn_verdict stripeawn_judge(uint32_t m, uint32_t a,
+                                         double estimate, uint32_t n,
+                                         uint32_t depth);
+
+/*
+** stripeawn_judge_claims: judges every record of a claims file.
+**
+** Given:
+**    claims        claim records, one after the other (Note 1)
+**    claims_len    their length in bytes
+**    answers       buffer with room for one byte per claim
+**    answers_len   its length in bytes
+** Returned:
+**    count         the number of claims
+**    answers       per claim one byte: 16, 17 or 18 as stripeawn_judge
+**                  gives them, or its record's code, the first that applies
+**                  of 9, 1, 2, 3, 4
+** Status:
+**    7 = claims_len is no multiple of 20
+**    8 = answers_len is less than the number of claims
+**    0 = done
+** Notes:
+** 1) A record has 20 bytes; numbers have their lowest byte first:
+**        0 M (4 bytes)    4 A (4)    8 estimate in radians, a double (8)
+**       16 N (2)         18 depth   19 reserved, zero
+** 2) A bad record is answered by its code byte. It refuses nothing else: the
+**    code of the batch stays 0.
+** 3) Bytes of answers from count on stay as they were; with code 7 or 8 all
+**    of them do. Zero claims: count 0, nothing written.
+** 4) Both pointers must be valid for their lengths, which are at most
+**    PTRDIFF_MAX, and must not be NULL: for length 0 pass any other pointer.
+**    They need no alignment.
+** 5) The buffers must not overlap. During the call no other thread may write
+**    claims, or read or write answers.
+*/
+struct stripeawn_batch stripeawn_judge_claims(const uint8_t *claims,
+                                              size_t claims_len,
+                                              uint8_t *answers,
+                                              size_t answers_len);
+
+#ifdef __cplusplus
+}
+#endif
+
+#endif

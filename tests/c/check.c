@@ -1,0 +1,150 @@
+/*
+** check.c: the counting of checks, and one comparison for each entry.
+*/
+#include <inttypes.h>
+#include <stdarg.h>
+#include <stdio.h>
+#include <string.h>
+
+#include "check.h"
+
+static unsigned long checks_run, checks_failed;
+
+void check(struct place at, int good, const char *format, ...)
+{
+    va_list arguments;
+
+    checks_run++;
+    if (good)
+        return;
+    checks_failed++;
+    printf("%s:%d: FAILED: ", at.file, at.line);
+    va_start(arguments, format);
+    vprintf(format, arguments);
+    va_end(arguments);
+    printf("\n");
+}
+
+int check_report(void)
+{
+    printf("C tests: %lu checks, %lu failed\n", checks_run, checks_failed);
+    return checks_run == 0 || checks_failed != 0;
+}
+
+void sine_is(struct place at, uint32_t x, uint32_t depth, uint32_t code,
+             int64_t lo, int64_t hi)
+{
+    struct stripeawn_bounds got = stripeawn_sine(x, depth);
+
+    check(at, got.code == code && got.lo == lo && got.hi == hi,
+          "sine x=%" PRIu32 " depth=%" PRIu32 ": code %" PRIu32 " lo %" PRId64
+          " hi %" PRId64 ", wanted %" PRIu32 " %" PRId64 " %" PRId64,
+          x, depth, got.code, got.lo, got.hi, code, lo, hi);
+}
+
+static void end_is(struct place at, const char *side, const uint32_t in[4],
+                   struct stripeawn_end got, struct stripeawn_end wanted)
+{
+    check(at, got.code == wanted.code && got.accepted == wanted.accepted,
+          "%s end x=%" PRIu32 " m=%" PRIu32 " a=%" PRIu32 " depth=%" PRIu32
+          ": code %" PRIu32 " accepted %" PRIu32 ", wanted %" PRIu32
+          " %" PRIu32,
+          side, in[0], in[1], in[2], in[3], got.code, got.accepted,
+          wanted.code, wanted.accepted);
+}
+
+void lower_is(struct place at, uint32_t x, uint32_t m, uint32_t a,
+              uint32_t depth, uint32_t code, uint32_t accepted)
+{
+    uint32_t in[4] = { x, m, a, depth };
+    struct stripeawn_end wanted = { code, accepted };
+
+    end_is(at, "lower", in, stripeawn_lower_end(x, m, a, depth), wanted);
+}
+
+void upper_is(struct place at, uint32_t x, uint32_t m, uint32_t a,
+              uint32_t depth, uint32_t code, uint32_t accepted)
+{
+    uint32_t in[4] = { x, m, a, depth };
+    struct stripeawn_end wanted = { code, accepted };
+
+    end_is(at, "upper", in, stripeawn_upper_end(x, m, a, depth), wanted);
+}
+
+void enclosure_is(struct place at, uint32_t m, uint32_t a, uint32_t depth,
+                  uint32_t code, uint32_t low, uint32_t high)
+{
+    struct stripeawn_enclosure got = stripeawn_enclose(m, a, depth);
+
+    check(at, got.code == code && got.a == low && got.b == high,
+          "enclose m=%" PRIu32 " a=%" PRIu32 " depth=%" PRIu32
+          ": code %" PRIu32 " a %" PRIu32 " b %" PRIu32 ", wanted %" PRIu32
+          " %" PRIu32 " %" PRIu32,
+          m, a, depth, got.code, got.a, got.b, code, low, high);
+}
+
+void proposal_is(struct place at, uint32_t m, uint32_t a,
+                 struct stripeawn_proposal wanted)
+{
+    struct stripeawn_proposal got = stripeawn_propose(m, a);
+
+    check(at,
+          got.code == wanted.code && got.angle == wanted.angle &&
+              got.e_sin == wanted.e_sin && got.e_cos == wanted.e_cos &&
+              got.j == wanted.j,
+          "propose m=%" PRIu32 " a=%" PRIu32 ": code %" PRIu32
+          " angle %" PRIu32 " e_sin %" PRId64 " e_cos %" PRId64 " j %" PRIu32,
+          m, a, got.code, got.angle, got.e_sin, got.e_cos, got.j);
+}
+
+void verdict_is(struct place at, uint32_t m, uint32_t a, double estimate,
+                uint32_t n, uint32_t depth, uint32_t code, uint32_t verdict)
+{
+    struct stripeawn_verdict got = stripeawn_judge(m, a, estimate, n, depth);
+
+    check(at, got.code == code && got.verdict == verdict,
+          "judge m=%" PRIu32 " a=%" PRIu32 " estimate=%a n=%" PRIu32
+          " depth=%" PRIu32 ": code %" PRIu32 " verdict %" PRIu32
+          ", wanted %" PRIu32 " %" PRIu32,
+          m, a, estimate, n, depth, got.code, got.verdict, code, verdict);
+}
+
+double from_bits(uint64_t bits)
+{
+    double value;
+
+    memcpy(&value, &bits, sizeof value);
+    return value;
+}
+
+uint64_t to_bits(double value)
+{
+    uint64_t bits;
+
+    memcpy(&bits, &value, sizeof bits);
+    return bits;
+}
+
+double units(uint32_t count)
+{
+    return count / 268435456.0;
+}
+
+static void put_number(uint8_t *bytes, uint64_t value, int size)
+{
+    int i;
+
+    for (i = 0; i < size; i++)
+        bytes[i] = (uint8_t)(value >> 8 * i);
+}
+
+void put_claim(uint8_t *record, uint32_t m, uint32_t a, double estimate,
+               uint32_t n, uint32_t depth, uint32_t reserved)
+{
+    put_number(record, m, 4);
+    put_number(record + 4, a, 4);
+    put_number(record + 8, to_bits(estimate), 8);
+    put_number(record + 16, n, 2);
+    put_number(record + 18, depth, 1);
+    put_number(record + 19, reserved, 1);
+}

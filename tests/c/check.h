@@ -1,0 +1,73 @@
+/*
+** check.h: counts checks and prints each one that fails, with its place.
+**
+** The wanted numbers are written out in the tests and not taken from the
+** header's names, so that a wrong number in the header is found too.
+*/
+#ifndef CHECK_H
+#define CHECK_H
+
+#include "stripeawn.h"
+
+/* The limits, as the rules give them. */
+#define H UINT32_C(843314856)
+#define T UINT32_C(843314920)
+#define ONE UINT32_C(268435456)
+#define FAR UINT32_MAX
+
+struct place {
+    const char *file;
+    int line;
+};
+
+#define HERE ((struct place){ __FILE__, __LINE__ })
+
+/* Number of elements of an array. */
+#define COUNT(array) (sizeof(array) / sizeof((array)[0]))
+
+/* One check: counted, and printed with the format where it is not good. */
+void check(struct place at, int good, const char *format, ...)
+    __attribute__((format(printf, 3, 4)));
+
+/* Prints how many checks ran and failed; 0 where all is well. */
+int check_report(void);
+
+/* One call each, with every number that it must return. */
+void sine_is(struct place at, uint32_t x, uint32_t depth, uint32_t code,
+             int64_t lo, int64_t hi);
+void lower_is(struct place at, uint32_t x, uint32_t m, uint32_t a,
+              uint32_t depth, uint32_t code, uint32_t accepted);
+void upper_is(struct place at, uint32_t x, uint32_t m, uint32_t a,
+              uint32_t depth, uint32_t code, uint32_t accepted);
+void enclosure_is(struct place at, uint32_t m, uint32_t a, uint32_t depth,
+                  uint32_t code, uint32_t low, uint32_t high);
+void proposal_is(struct place at, uint32_t m, uint32_t a,
+                 struct stripeawn_proposal wanted);
+void verdict_is(struct place at, uint32_t m, uint32_t a, double estimate,
+                uint32_t n, uint32_t depth, uint32_t code, uint32_t verdict);
+
+/* The double with these bits, and the bits of a double. */
+double from_bits(uint64_t bits);
+uint64_t to_bits(double value);
+
+/* A whole number of units, in radians: exact. */
+double units(uint32_t count);
+
+/* Writes a claim record of 20 bytes. */
+void put_claim(uint8_t *record, uint32_t m, uint32_t a, double estimate,
+               uint32_t n, uint32_t depth, uint32_t reserved);
+
+/* The groups of checks, one to a file. */
+void test_header(void);
+void test_sine(void);
+void test_ends(void);
+void test_enclose(void);
+void test_propose(void);
+void test_judge(void);
+void test_estimates(void);
+void test_order(void);
+void test_batch(void);
+void test_buffers(void);
+void test_threads(void);
+
+#endif

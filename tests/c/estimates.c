@@ -1,0 +1,142 @@
+/*
+** estimates.c: every kind of double as an estimate.
+**
+** With A = 0 the root is M, so that a few verdicts tell the whole numbers
+** just below and just above an estimate, its f and c, one by one.
+*/
+#include "check.h"
+
+#define INFINITE UINT64_C(0x7FF0000000000000)
+#define SIGN UINT64_C(0x8000000000000000)
+
+/* Whole estimate: within 0 units of f and of nothing else. */
+static void whole(struct place at, double estimate, uint32_t f)
+{
+    verdict_is(at, f, 0, estimate, 0, 1, 0, 16);
+    if (f > 0)
+        verdict_is(at, f - 1, 0, estimate, 0, 1, 0, 17);
+    if (f < H)
+        verdict_is(at, f + 1, 0, estimate, 0, 1, 0, 17);
+}
+
+/* Between f and f + 1: within 0 units of neither, within 1 of both alone. */
+static void between(struct place at, double estimate, uint32_t f)
+{
+    verdict_is(at, f, 0, estimate, 0, 1, 0, 17);
+    verdict_is(at, f + 1, 0, estimate, 0, 1, 0, 17);
+    verdict_is(at, f, 0, estimate, 1, 1, 0, 16);
+    verdict_is(at, f + 1, 0, estimate, 1, 1, 0, 16);
+    if (f > 0)
+        verdict_is(at, f - 1, 0, estimate, 1, 1, 0, 17);
+    if (f + 2 <= H)
+        verdict_is(at, f + 2, 0, estimate, 1, 1, 0, 17);
+}
+
+static void refused(struct place at, double estimate)
+{
+    verdict_is(at, 0, 0, estimate, 0, 1, 4, 0);
+    verdict_is(at, H, ONE, estimate, 65535, 5, 4, 0);
+}
+
+static void test_zeros(void)
+{
+    whole(HERE, 0.0, 0);
+    whole(HERE, from_bits(SIGN), 0);
+}
+
+static void test_subnormals(void)
+{
+    between(HERE, from_bits(1), 0);
+    between(HERE, from_bits(2), 0);
+    between(HERE, from_bits(UINT64_C(0x0008000000000000)), 0);
+    between(HERE, from_bits(UINT64_C(0x000FFFFFFFFFFFFF)), 0);
+    between(HERE, from_bits(UINT64_C(0x0010000000000000)), 0);
+    refused(HERE, from_bits(SIGN | 1));
+    refused(HERE, from_bits(SIGN | UINT64_C(0x000FFFFFFFFFFFFF)));
+    refused(HERE, from_bits(SIGN | UINT64_C(0x0010000000000000)));
+}
+
+/* Whole units, their halves and the doubles next to them. */
+static void test_on_and_off_grid(void)
+{
+    static const uint32_t counts[] = { 1, 2, 3, 1000, 524288, ONE - 1, ONE,
+                                       ONE + 1, 421657428, H - 2 };
+    size_t i;
+
+    for (i = 0; i < COUNT(counts); i++) {
+        uint32_t f = counts[i];
+        uint64_t bits = to_bits(units(f));
+
+        whole(HERE, units(f), f);
+        between(HERE, from_bits(bits + 1), f);
+        between(HERE, from_bits(bits - 1), f - 1);
+        between(HERE, units(f) + units(1) / 2, f);
+        between(HERE, units(f) - units(1) / 4, f - 1);
+    }
+}
+
+/* T units are taken and the next double is not. */
+static void test_top(void)
+{
+    uint64_t top = to_bits(units(T));
+
+    whole(HERE, units(H), H);
+    verdict_is(HERE, H, 0, units(T), 64, 1, 0, 16);
+    verdict_is(HERE, H, 0, units(T), 63, 1, 0, 17);
+    verdict_is(HERE, H, 0, from_bits(top - 1), 64, 1, 0, 16);
+    verdict_is(HERE, H, 0, from_bits(top - 1), 63, 1, 0, 17);
+    verdict_is(HERE, H, 0, units(T - 1), 63, 1, 0, 16);
+    verdict_is(HERE, H, 0, units(T - 1), 62, 1, 0, 17);
+    refused(HERE, from_bits(top + 1));
+    refused(HERE, units(T + 1));
+    refused(HERE, 3.2);
+}
+
+/* Far above: 2^4 radian and more would wrap in 32 bits of units. */
+static void test_large(void)
+{
+    refused(HERE, 16.0);
+    refused(HERE, 17.0);
+    refused(HERE, 68719476736.0);
+    refused(HERE, 68719476737.0);
+    refused(HERE, 1e300);
+    refused(HERE, from_bits(INFINITE - 1));
+    refused(HERE, from_bits(INFINITE));
+}
+
+static void test_below_zero(void)
+{
+    refused(HERE, -units(1));
+    refused(HERE, -1.0);
+    refused(HERE, -3.0);
+    refused(HERE, -16.0);
+    refused(HERE, from_bits(SIGN | (INFINITE - 1)));
+    refused(HERE, from_bits(SIGN | INFINITE));
+}
+
+/* Quiet and signalling, with and without payload, of both signs. */
+static void test_nans(void)
+{
+    static const uint64_t payloads[] = {
+        UINT64_C(0x0000000000000001), UINT64_C(0x0007FFFFFFFFFFFF),
+        UINT64_C(0x0008000000000000), UINT64_C(0x0008000000000001),
+        UINT64_C(0x000C000012345678), UINT64_C(0x000FFFFFFFFFFFFF),
+    };
+    size_t i;
+
+    for (i = 0; i < COUNT(payloads); i++) {
+        refused(HERE, from_bits(INFINITE | payloads[i]));
+        refused(HERE, from_bits(SIGN | INFINITE | payloads[i]));
+    }
+}
+
+void test_estimates(void)
+{
+    test_zeros();
+    test_subnormals();
+    test_on_and_off_grid();
+    test_top();
+    test_large();
+    test_below_zero();
+    test_nans();
+}

@@ -1,0 +1,20 @@
+/*
+** main.c: runs every group of checks against the linked library.
+*/
+#include "check.h"
+
+int main(void)
+{
+    test_header();
+    test_sine();
+    test_ends();
+    test_enclose();
+    test_propose();
+    test_judge();
+    test_estimates();
+    test_order();
+    test_batch();
+    test_buffers();
+    test_threads();
+    return check_report();
+}

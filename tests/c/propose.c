@@ -1,0 +1,91 @@
+/*
+** propose.c: the shift-and-add proposal and its certificate.
+*/
+#include "check.h"
+
+struct stated {
+    uint32_t m, a;
+    struct stripeawn_proposal wanted;
+};
+
+/* Numbers worked out with whole numbers of any size. */
+static const struct stated stated[] = {
+    { 0, 0, { 0, 0, 0, 0, 0 } },
+    { 1, 0, { 0, 0, 0, 0, 0 } },
+    { H, 0, { 0, 843314850, 0, 0, 3 } },
+    { 0, 1, { 0, 0, 0, 0, 0 } },
+    { 1, 1, { 0, 0, 0, 0, 1 } },
+    { H, 1, { 0, 843314850, 0, 0, 3 } },
+    { 1, ONE, { 0, 1048514, 1048514, 268433424, 19 } },
+    { 2, ONE, { 0, 1048514, 1048514, 268433424, 17 } },
+    { H - 1, ONE, { 0, 843314850, 3, -268435464, 4 } },
+    { H, ONE, { 0, 843314850, 3, -268435464, 4 } },
+    { 1000, ONE - 1, { 0, 7569260, 7568261, 268328751, 14 } },
+    { 3, ONE - 4000, { 0, 393158, 393156, 268431172, 18 } },
+    { 42554808, ONE, { 0, 268435460, 225880650, 145036293, 4 } },
+    { 421657428, ONE / 2, { 0, 542502662, 120845242, -58402269, 4 } },
+    { 100000000, 241591910, { 0, 326602754, 226602763, 83772525, 5 } },
+    { 734064451, 67147247, { 0, 755614010, 21549555, -63595354, 3 } },
+    { ONE, ONE / 4, { 0, 331821120, 63385661, 22042174, 2 } },
+    { 700000000, 200000000, { 0, 760633190, 60633187, -190587555, 2 } },
+};
+
+/* The rotations end at -1048514 here; E is brought up to 0, y stays. */
+static const struct stated below_zero[] = {
+    { 0, ONE, { 0, 0, -1048514, 268433403, 20 } },
+    { 0, ONE - 1, { 0, 0, -1048514, 268433400, 20 } },
+};
+
+static const struct stated refused[] = {
+    { H + 1, 0, { 1, 0, 0, 0, 0 } },
+    { FAR, ONE, { 1, 0, 0, 0, 0 } },
+    { 0, ONE + 1, { 2, 0, 0, 0, 0 } },
+    { H, FAR, { 2, 0, 0, 0, 0 } },
+    { H + 1, ONE + 1, { 1, 0, 0, 0, 0 } },
+};
+
+static void test_table(const struct stated *table, size_t count)
+{
+    size_t i;
+
+    for (i = 0; i < count; i++)
+        proposal_is(HERE, table[i].m, table[i].a, table[i].wanted);
+}
+
+/* Whether the width 2^j around the angle is accepted at depth 5. */
+static int certified(uint32_t angle, uint32_t m, uint32_t a, uint32_t j)
+{
+    uint32_t width = UINT32_C(1) << j;
+    uint32_t low = angle > width ? angle - width : 0;
+    uint32_t high = angle + width < T ? angle + width : T;
+
+    return stripeawn_lower_end(low, m, a, 5).accepted &&
+           stripeawn_upper_end(high, m, a, 5).accepted;
+}
+
+/* By the library's own end tests: j is accepted and no smaller one is. */
+static void test_smallest_certificate(void)
+{
+    uint32_t m, a, j;
+
+    for (m = 0; m <= H; m += 30000001)
+        for (a = 0; a <= ONE; a += ONE / 16) {
+            struct stripeawn_proposal got = stripeawn_propose(m, a);
+
+            check(HERE, got.code == 0 && got.angle <= T && got.j <= 30,
+                  "propose m=%lu a=%lu", (unsigned long)m, (unsigned long)a);
+            for (j = 0; j <= got.j && j <= 30; j++)
+                check(HERE, certified(got.angle, m, a, j) == (j == got.j),
+                      "certificate %lu of m=%lu a=%lu is not the smallest",
+                      (unsigned long)got.j, (unsigned long)m,
+                      (unsigned long)a);
+        }
+}
+
+void test_propose(void)
+{
+    test_table(stated, COUNT(stated));
+    test_table(below_zero, COUNT(below_zero));
+    test_table(refused, COUNT(refused));
+    test_smallest_certificate();
+}

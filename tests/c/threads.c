@@ -1,0 +1,81 @@
+/*
+** threads.c: every entry from several threads at once, each on a stack of
+** 64 KiB, as the header allows.
+*/
+#include <pthread.h>
+
+#include "check.h"
+
+enum { THREADS = 4, ORBITS = 200, STACK = 65536 };
+
+/* Sums of everything that one pass over the entries returns. */
+struct totals {
+    uint64_t sine, ends, enclosures, proposals, verdicts, answers;
+};
+
+static void add_orbit(struct totals *t, uint32_t m, uint32_t a, uint32_t depth)
+{
+    struct stripeawn_bounds s = stripeawn_sine(m, depth);
+    struct stripeawn_enclosure e = stripeawn_enclose(m, a, depth);
+    struct stripeawn_proposal p = stripeawn_propose(m, a);
+    double estimate = units(p.angle);
+    uint8_t claim[20], answer = 0;
+
+    put_claim(claim, m, a, estimate, depth * 9, depth, 0);
+    stripeawn_judge_claims(claim, 20, &answer, 1);
+    t->sine += (uint64_t)s.lo * 3 + (uint64_t)s.hi;
+    t->ends += stripeawn_lower_end(p.angle, m, a, depth).accepted * 3 +
+               stripeawn_upper_end(p.angle, m, a, depth).accepted;
+    t->enclosures += (uint64_t)e.a * 3 + e.b;
+    t->proposals += p.angle + (uint64_t)p.e_sin * 3 + (uint64_t)p.e_cos * 5 +
+                    p.j;
+    t->verdicts += stripeawn_judge(m, a, estimate, depth * 9, depth).verdict;
+    t->answers += answer;
+}
+
+static void *run(void *given)
+{
+    struct totals *t = given, none = { 0, 0, 0, 0, 0, 0 };
+    uint32_t i, random = 1;
+
+    *t = none;
+    for (i = 0; i < ORBITS; i++) {
+        uint32_t m = (random = random * 1664525 + 1013904223) % (H + 1);
+        uint32_t a = (random = random * 1664525 + 1013904223) % (ONE + 1);
+
+        add_orbit(t, m, a, i % 5 + 1);
+    }
+    return NULL;
+}
+
+static int same(const struct totals *s, const struct totals *t)
+{
+    return s->sine == t->sine && s->ends == t->ends &&
+           s->enclosures == t->enclosures && s->proposals == t->proposals &&
+           s->verdicts == t->verdicts && s->answers == t->answers;
+}
+
+void test_threads(void)
+{
+    struct totals alone, totals[THREADS];
+    pthread_t threads[THREADS];
+    pthread_attr_t small;
+    int i, started = 0;
+
+    run(&alone);
+    check(HERE, alone.answers == alone.verdicts && alone.answers > 0,
+          "batch and judge differ");
+    pthread_attr_init(&small);
+    check(HERE, pthread_attr_setstacksize(&small, STACK) == 0,
+          "no stack of 64 KiB");
+    while (started < THREADS && pthread_create(&threads[started], &small, run,
+                                               &totals[started]) == 0)
+        started++;
+    check(HERE, started == THREADS, "only %d threads", started);
+    for (i = 0; i < started; i++) {
+        pthread_join(threads[i], NULL);
+        check(HERE, same(&totals[i], &alone), "thread %d answers otherwise",
+              i);
+    }
+    pthread_attr_destroy(&small);
+}

@@ -1,0 +1,137 @@
+"""Compares the library with the written rules, entry by entry.
+
+    python3 compare.py SEED DRIVER..
+
+SEED is a whole number, or 'time' for one from the clock. DRIVER is the
+command that runs driver.c linked with the library. Any difference is printed
+with its case, and the exit status is then 1.
+"""
+import random
+import sys
+import time
+from collections import Counter
+from multiprocessing import Pool
+
+import cases
+import demands
+import edges
+import page
+import records
+import rules
+import wire
+
+PROCESSES = 2
+SHOWN = 20
+
+RULES = {
+    wire.SINE: lambda c: rules.sine(c.x, c.depth),
+    wire.LOWER_END: lambda c: rules.lower_end(c.x, c.m, c.a, c.depth),
+    wire.UPPER_END: lambda c: rules.upper_end(c.x, c.m, c.a, c.depth),
+    wire.ENCLOSE: lambda c: rules.enclose(c.m, c.a, c.depth),
+    wire.PROPOSE: lambda c: rules.propose(c.m, c.a),
+    wire.JUDGE: lambda c: rules.judge(c.m, c.a, c.bits, c.n, c.depth),
+    wire.BATCH: lambda c: (*records.judge_claims(
+        c.claims, c.answers, c.answers_len), c.claims),
+}
+
+
+def differences(call, wanted, got):
+    """A sentence where the replies differ, in a list. The driver fills up
+    with 0 what an entry does not give."""
+    if got == wanted + (0,) * (len(got) - len(wanted)):
+        return []
+    given = ", ".join(
+        f"{name}={value.hex() if isinstance(value, bytes) else value}"
+        for name, value in call._asdict().items() if name != "entry")
+    return [f"{wire.NAMES[call.entry]}({given}): wanted {wanted}, "
+            f"the library gives {got}"]
+
+
+def compare(driver, calls):
+    """How often each entry was compared, and the differences."""
+    faults = []
+    for call, got in zip(calls, wire.ask(driver, calls)):
+        faults += differences(call, RULES[call.entry](call), got)
+    return Counter(wire.NAMES[call.entry] for call in calls), faults
+
+
+def compare_page(driver):
+    """The page's own numbers, held against the rules here and the library."""
+    calls, wanted = zip(*page.stated())
+    faults = []
+    for call, answer, got in zip(calls, wanted, wire.ask(driver, calls)):
+        faults += differences(call, answer, got)
+        if RULES[call.entry](call) != answer:
+            faults.append(f"the rules of this folder miss {answer} at {call}")
+    return Counter(numbers=len(calls)), faults
+
+
+def check_demand(driver, check, rng, count):
+    """How many facts were looked at, and those that do not hold."""
+    facts, faults = 0, []
+    for true, sentence in check(lambda calls: wire.ask(driver, calls), rng,
+                                count):
+        facts += 1
+        if not true:
+            faults.append(f"not as demanded: {sentence}")
+    return Counter(facts=facts), faults
+
+
+def work(piece):
+    """One piece of work: its group, what it counted, what it found wrong."""
+    driver, seed, group, kind, number, count = piece
+    rng = random.Random(f"{seed} {group} {kind} {number}")
+    if group == "page":
+        return group, *compare_page(driver)
+    if group == "edge":
+        return group, *compare(driver, edges.KINDS[kind]())
+    if group == "exact":
+        return group, *check_demand(driver, demands.KINDS[kind][0], rng, count)
+    draw = cases.KINDS[kind][0]
+    return group, *compare(driver, [draw(rng) for _ in range(count)])
+
+
+def pieces(driver, seed):
+    yield driver, seed, "page", "", 0, 0
+    for kind in edges.KINDS:
+        yield driver, seed, "edge", kind, 0, 0
+    for group, kinds in (("random", cases.KINDS), ("exact", demands.KINDS)):
+        for kind, (_, total, each) in kinds.items():
+            for number in range(0, total, each):
+                yield driver, seed, group, kind, number, each
+
+
+def report(totals, faults, seconds):
+    for group in ("edge", "random"):
+        parts = (f"{count:,} {name}" for name, count in totals[group].items())
+        print(f"compare: {group} cases: {', '.join(sorted(parts))}")
+    for sentence in faults[:SHOWN]:
+        print(f"compare: DIFFERENT: {sentence}")
+    if len(faults) > SHOWN:
+        print(f"compare: and {len(faults) - SHOWN:,} more")
+    drawn, edge, stated, facts = (sum(totals[group].values()) for group in
+                                  ("random", "edge", "page", "exact"))
+    print(f"compare: {drawn:,} random cases, {edge:,} edge cases, {stated} "
+          f"numbers of the page and {facts:,} exact facts in {seconds} s: "
+          f"{len(faults):,} differences")
+
+
+def main(arguments):
+    if len(arguments) < 2:
+        print(__doc__, file=sys.stderr)
+        return 2
+    seed = time.time_ns() if arguments[0] == "time" else int(arguments[0])
+    start = time.monotonic_ns()
+    print(f"compare: seed {seed}", flush=True)
+    totals, faults = {}, []
+    with Pool(PROCESSES) as pool:
+        for group, counts, wrong in pool.imap_unordered(
+                work, pieces(arguments[1:], seed)):
+            totals.setdefault(group, Counter()).update(counts)
+            faults += wrong
+    report(totals, faults, (time.monotonic_ns() - start) // 10 ** 9)
+    return 1 if faults else 0
+
+
+if __name__ == "__main__":
+    sys.exit(main(sys.argv[1:]))

@@ -1,0 +1,45 @@
+"""Doubles as their 64 bits, made from whole numbers."""
+import rules
+
+SIGN = 2 ** 63
+INFINITY = 0x7FF << 52
+GREATEST = INFINITY - 1
+LEAST_NORMAL = 1 << 52
+
+
+def bits_of(numerator, shift):
+    """The bits of numerator / 2^shift, which must be a normal double or 0."""
+    if numerator == 0:
+        return 0
+    length = numerator.bit_length()
+    if length > 53:
+        raise ValueError("more than 53 bits")
+    exponent = length - 1 - shift + 1023
+    if not 0 < exponent < 2047:
+        raise ValueError("not a normal double")
+    return (exponent << 52) + (numerator << 53 - length) - 2 ** 52
+
+
+def of_units(units, part=0, places=0):
+    """The bits of units + part / 2^places units, in radians."""
+    return bits_of((units << places) + part, 28 + places)
+
+
+def every_kind():
+    """Zeros, subnormals, normals on and off the grid and beside the limits,
+    infinities and NaNs, and all but the NaNs with the other sign too."""
+    t_bits, one = of_units(rules.T), of_units(rules.UNIT)
+    usual = [
+        0, 1, 2, LEAST_NORMAL - 1, LEAST_NORMAL, LEAST_NORMAL + 1,
+        of_units(0, 1, 20), of_units(0, 1, 1), of_units(1) - 1, of_units(1),
+        of_units(1) + 1, of_units(1, 1, 1), of_units(2), of_units(2) + 1,
+        of_units(524_288), of_units(524_288) - 1, of_units(65_535),
+        of_units(65_536, 1, 3), one - 1, one, one + 1, of_units(rules.H) - 1,
+        of_units(rules.H), of_units(rules.H) + 1, of_units(rules.T - 1),
+        of_units(rules.T - 1, 1, 1), t_bits - 1, t_bits, t_bits + 1,
+        of_units(rules.T + 1), of_units(2 ** 32), of_units(2 ** 32 + 7),
+        bits_of(1, -100), GREATEST, INFINITY,
+    ]
+    nans = [INFINITY + 1, INFINITY + 2 ** 51, INFINITY + 2 ** 51 + 12_345,
+            INFINITY + 2 ** 52 - 1]
+    return [bits + sign for bits in usual + nans for sign in (0, SIGN)]

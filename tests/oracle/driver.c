@@ -1,0 +1,159 @@
+/*
+** driver.c: answers requests from standard input by calling the library.
+**
+** A request is 32 bytes, a reply 40, both in the byte order of x86-64. The
+** entry is named by its place in the list below. A batch request is followed
+** by its claims and by the bytes of the answers buffer, its reply by the
+** answers buffer and the claims as they are after the call.
+*/
+#include <stdio.h>
+#include <stdlib.h>
+#include <string.h>
+
+#include "stripeawn.h"
+
+enum entry { SINE, LOWER_END, UPPER_END, ENCLOSE, PROPOSE, JUDGE, BATCH };
+
+struct request {
+    uint32_t entry, x, m, a, n, depth;
+    uint64_t bits; /* of the estimate */
+};
+
+struct reply {
+    int64_t code, first, second, third, fourth;
+};
+
+static void fail(const char *why)
+{
+    fprintf(stderr, "driver: %s\n", why);
+    exit(2);
+}
+
+static void write_bytes(const void *bytes, size_t count)
+{
+    if (count > 0 && fwrite(bytes, 1, count, stdout) != count)
+        fail("cannot write");
+}
+
+/* A buffer with the next bytes of the input; never NULL. */
+static uint8_t *read_buffer(size_t count)
+{
+    uint8_t *buffer = malloc(count > 0 ? count : 1);
+
+    if (buffer == NULL)
+        fail("no memory");
+    if (count > 0 && fread(buffer, 1, count, stdin) != count)
+        fail("a batch request ends too early");
+    return buffer;
+}
+
+static struct reply ask_sine(const struct request *r)
+{
+    struct stripeawn_bounds s = stripeawn_sine(r->x, r->depth);
+    struct reply reply = { s.code, s.lo, s.hi, 0, 0 };
+
+    return reply;
+}
+
+static struct reply ask_end(const struct request *r)
+{
+    struct stripeawn_end s =
+        r->entry == LOWER_END
+            ? stripeawn_lower_end(r->x, r->m, r->a, r->depth)
+            : stripeawn_upper_end(r->x, r->m, r->a, r->depth);
+    struct reply reply = { s.code, s.accepted, 0, 0, 0 };
+
+    return reply;
+}
+
+static struct reply ask_enclosure(const struct request *r)
+{
+    struct stripeawn_enclosure s = stripeawn_enclose(r->m, r->a, r->depth);
+    struct reply reply = { s.code, s.a, s.b, 0, 0 };
+
+    return reply;
+}
+
+static struct reply ask_proposal(const struct request *r)
+{
+    struct stripeawn_proposal s = stripeawn_propose(r->m, r->a);
+    struct reply reply = { s.code, s.angle, s.e_sin, s.e_cos, s.j };
+
+    return reply;
+}
+
+static struct reply ask_verdict(const struct request *r)
+{
+    struct stripeawn_verdict s;
+    struct reply reply = { 0, 0, 0, 0, 0 };
+    double estimate;
+
+    memcpy(&estimate, &r->bits, sizeof estimate);
+    s = stripeawn_judge(r->m, r->a, estimate, r->n, r->depth);
+    reply.code = s.code;
+    reply.first = s.verdict;
+    return reply;
+}
+
+/* x is the length of the claims, m that of the answers, a the room behind. */
+static void answer_batch(const struct request *r)
+{
+    uint8_t *claims = read_buffer(r->x);
+    uint8_t *answers = read_buffer(r->a);
+    struct stripeawn_batch s;
+    struct reply reply = { 0, 0, 0, 0, 0 };
+
+    if (r->m > r->a)
+        fail("a batch request has less room than it says");
+    s = stripeawn_judge_claims(claims, r->x, answers, r->m);
+    reply.code = s.code;
+    reply.first = (int64_t)s.count;
+    write_bytes(&reply, sizeof reply);
+    write_bytes(answers, r->a);
+    write_bytes(claims, r->x);
+    free(claims);
+    free(answers);
+}
+
+static struct reply ask(const struct request *r)
+{
+    struct reply none = { -1, 0, 0, 0, 0 };
+
+    switch (r->entry) {
+    case SINE:
+        return ask_sine(r);
+    case LOWER_END:
+    case UPPER_END:
+        return ask_end(r);
+    case ENCLOSE:
+        return ask_enclosure(r);
+    case PROPOSE:
+        return ask_proposal(r);
+    case JUDGE:
+        return ask_verdict(r);
+    }
+    fail("an unknown entry");
+    return none;
+}
+
+int main(void)
+{
+    struct request request;
+    size_t got;
+
+    while ((got = fread(&request, 1, sizeof request, stdin)) ==
+           sizeof request) {
+        if (request.entry == BATCH) {
+            answer_batch(&request);
+        } else {
+            struct reply reply = ask(&request);
+
+            write_bytes(&reply, sizeof reply);
+        }
+    }
+    if (got != 0 || ferror(stdin))
+        fail("a request ends too early");
+    if (fflush(stdout) != 0)
+        fail("cannot write");
+    return 0;
+}

@@ -1,0 +1,69 @@
+"""Compares the program judge_claims with the written rules.
+
+    python3 program.py COMMAND..
+
+COMMAND reads a file of claims on standard input and writes its answers. Any
+difference is printed, and the exit status is then 1.
+"""
+import random
+import subprocess
+import sys
+from pathlib import Path
+
+import cases
+import edges
+import page
+import records
+
+
+def files():
+    """Names and contents: whole, damaged, truncated, and each length around
+    the longest that is read."""
+    rng = random.Random(1)
+    every = b"".join(edges.every_record())
+    longest = b"".join(cases.record(rng) for _ in range(3_276))
+    yield "no claims", b""
+    yield "the page's batch", page.BATCH.claims
+    yield "every kind of record", every
+    for cut in (1, 19, 20, 21, 39, 40, 41, len(every) - 1):
+        yield f"cut to {cut} bytes", every[:cut]
+    yield "65,500 bytes", longest[:-20]
+    yield "65,519 bytes", longest[:-1]
+    yield "65,520 bytes, the longest", longest
+    yield "65,521 bytes", longest + b"\0"
+    yield "65,540 bytes", longest + longest[:20]
+    yield "131,040 bytes", longest + longest
+
+
+def stored():
+    """The gate's own files of claims, each with its stored answers."""
+    for crate in sorted(Path("crates").glob("judge_claims*")):
+        answers = crate / "stdout"
+        yield (f"{crate.name}'s file", (crate / "stdin").read_bytes(),
+               answers.read_bytes() if answers.exists() else b"")
+
+
+def main(command):
+    if not command:
+        print(__doc__, file=sys.stderr)
+        return 2
+    compared = wrong = 0
+    for name, data in files():
+        done = subprocess.run(command, input=data, stdout=subprocess.PIPE,
+                              check=True)
+        compared += 1
+        if done.stdout != records.program(data):
+            wrong += 1
+            print(f"program: DIFFERENT: {name}: {len(done.stdout)} bytes, "
+                  f"wanted {len(records.program(data))}")
+    for name, data, answers in stored():
+        compared += 1
+        if answers != records.program(data):
+            wrong += 1
+            print(f"program: DIFFERENT: the stored answers of {name}")
+    print(f"program: {compared} files of claims compared, {wrong} differences")
+    return 1 if wrong else 0
+
+
+if __name__ == "__main__":
+    sys.exit(main(sys.argv[1:]))
