@@ -2,13 +2,13 @@
 -- side rules out every depth. Assumes nothing.
 use mathlib.Core.Path.{_≡_, refl, sym, ap, ap₂, _∙_, subst}
 use mathlib.Core.Bool.{Bool, true, false}
-use mathlib.Core.Logic.{_↔_}
 use Prim.Native.Nat.{ℕ, suc, pred, _+_, _*_, _≤_, _<_}
 use native.Mathlib.Omega.{arith}
 use native.Mathlib.Nat.{mul-le-mul-left}
-use lib.Dec.{T, leb, leb→le, le→leb}
+use lib.Dec.{leb}
 use lib.IntN.{ℤ}
 use Rattle.grid.specs.Grid.{one, H-units, T-units, depths}
+use Rattle.whole.proofs.Bools.{by-meaning, passed, passes, fails}
 use Rattle.whole.proofs.Parts.{plus, minus, own}
 use Rattle.whole.proofs.Order.{le-parts}
 use Rattle.series.specs.Sine.{Lo, Hi}
@@ -24,28 +24,6 @@ use Rattle.ends.specs.Fair.{Stage, endAt}
 use Rattle.ends.specs.declared.Orbit.{Orbit}
 use Rattle.ends.proofs.Tests.{lower-test, upper-test}
 use Rattle.ends.proofs.Exact.{lower-deeper, upper-deeper}
-
--- two tests that pass together are one
-same-test : (s t : Bool) → (T s ↔ T t) → s ≡ t
-same-test true true e = refl
-same-test true false e = absurd (e .0 tt)
-same-test false true e = absurd (e .1 tt)
-same-test false false e = refl
-
--- a comparison that holds just where the test's meaning does is the test
-by-meaning : (l r : ℕ) (t : Bool) {P : Type 0} → (T t ↔ P) → (l ≤ r → P) → (P → l ≤ r) → leb l r ≡ t
-by-meaning l r t m f g = same-test (leb l r) t (λ s. m .1 (f (leb→le l r s)), λ s. le→leb l r (g (m .0 s)))
-
-pub passed : (t : Bool) → true ≡ t → T t
-passed t e = subst T e tt
-
-pub passes : (t : Bool) → T t → true ≡ t
-passes true s = refl
-passes false s = absurd s
-
-fails : (t : Bool) → (T t → ⊥) → false ≡ t
-fails true f = absurd (f tt)
-fails false f = refl
 
 -- a product with a raised bound, by the bound's parts
 scaled : (a b : ℕ) (z : ℤ) → b ≡ raised z → Within bound-limit z → a * b + a * minus z ≡ a * raise + a * plus z

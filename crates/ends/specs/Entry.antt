@@ -42,8 +42,8 @@ abbrev pub endRule : (Orbit → ℕ → ℕ → Bool) → ℕ → ℕ → ℕ �
 endRule end x m a d =
     answer (questionChecks x m a d) (λ code. record { code = code; accepted = 0 }) (flagged (end (orbitAt m a) d x))
 
-unfoldable pub lowerRule : ℕ → ℕ → ℕ → ℕ → End
+abbrev pub lowerRule : ℕ → ℕ → ℕ → ℕ → End
 lowerRule x m a d = endRule lowerEnd x m a d
 
-unfoldable pub upperRule : ℕ → ℕ → ℕ → ℕ → End
+abbrev pub upperRule : ℕ → ℕ → ℕ → ℕ → End
 upperRule x m a d = endRule upperEnd x m a d

@@ -1,7 +1,7 @@
 // The two end tests: whether an angle is accepted as an end below or above the root.
 ghost use mathlib.Core.Path.{_≡_};
 ghost use Rattle.ends.specs.Ends.{lowerEnd, upperEnd};
-ghost use Rattle.ends.specs.Entry.{orbitOf, questionOf, lowerRule, upperRule, flagged};
+ghost use Rattle.ends.specs.Entry.{orbitOf, questionOf, endRule, lowerRule, upperRule, flagged};
 ghost use Rattle.ends.specs.Fair.{Fair, Stage, Hopeless, endAt};
 ghost use Rattle.grid.specs.Grid.{one, H-units, T-units};
 ghost use Rattle.series.specs.Walk.{raise};
@@ -176,22 +176,26 @@ fn flag(accepted: bool) -> End
     }
 }
 
+// The end test of plain numbers, for an end above the root or below it.
+fn end_test(x: u32, m: u32, a: u32, depth: u32, above: bool) -> End
+    ensures { λ r. ⌜ r ≡ endRule (endAt above) x m a depth ⌝ }
+{
+    match Question::new(x, m, a, depth) {
+        QuestionOr::Refused(code) => End { code, accepted: 0 },
+        QuestionOr::Made(q) => flag(settle(q.o, q.x, q.d, above)),
+    }
+}
+
 // Whether x is an accepted lower end, or the code of what is out of limits: 1, 2, 3, then 10.
 pub fn lower_end(x: u32, m: u32, a: u32, depth: u32) -> End
     ensures { λ r. ⌜ r ≡ lowerRule x m a depth ⌝ }
 {
-    match Question::new(x, m, a, depth) {
-        QuestionOr::Refused(code) => End { code, accepted: 0 },
-        QuestionOr::Made(q) => flag(lower(q.o, q.x, q.d)),
-    }
+    end_test(x, m, a, depth, false)
 }
 
 // Whether x is an accepted upper end, or the code of what is out of limits: 1, 2, 3, then 10.
 pub fn upper_end(x: u32, m: u32, a: u32, depth: u32) -> End
     ensures { λ r. ⌜ r ≡ upperRule x m a depth ⌝ }
 {
-    match Question::new(x, m, a, depth) {
-        QuestionOr::Refused(code) => End { code, accepted: 0 },
-        QuestionOr::Made(q) => flag(upper(q.o, q.x, q.d)),
-    }
+    end_test(x, m, a, depth, true)
 }

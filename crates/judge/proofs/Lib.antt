@@ -1,4 +1,3 @@
-pub mod Branches
 pub mod Checks
 pub mod Laws
 pub mod Entry

@@ -135,7 +135,7 @@ pub fn further(s: Walk) -> Walk
 }
 
 // Lo and Hi, raised. The pairs stand one after the other, each with its divisors, which is faster than a choice for each.
-pub fn bounds_at(x: Angle, d: Depth) -> Raised
+fn bounds_at(x: Angle, d: Depth) -> Raised
     requires { ⌜ OnGrid x d ⌝ }
     ensures { λ r. ⌜ r ≡ raisedBounds (x .units) (d .pairs) ⌝ }
 {

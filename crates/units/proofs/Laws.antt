@@ -20,7 +20,7 @@ use Rattle.units.specs.declared.Units.{Units}
 use Rattle.units.specs.declared.UnitsOr.the-variants.{Made, Refused}
 use Rattle.grid.proofs.Made.{was-made, value-made}
 use Rattle.units.proofs.Enum.{unit-answers}
-use Rattle.units.proofs.Rounding.{up-whole, up-le-next}
+use Rattle.whole.proofs.Round.{up-whole, up-le-next}
 
 -- f and c are a / d rounded down and up, both are at most T, and they are equal exactly where the quotient is whole
 pub record Rounded (a d f c : ℕ) : Type 0 where

@@ -1,6 +1,5 @@
 pub mod Enum
 pub mod Value
 pub mod Scaled
-pub mod Rounding
 pub mod Estimate
 pub mod Laws

@@ -12,18 +12,12 @@ use lib.Ieee.{Float, nan, inf, fin, up, down, below, level, lt, le, toUnsigned}
 use lib.Ieee.Fits.{down-pos, eq→eqb, and-l, and-i}
 use lib.Ieee.Nearest.{div-same}
 use lib.Ieee.Order.{transfer}
+use Rattle.whole.proofs.Bools.{alike}
 
 abbrev pub Value : Float → ℕ → ℕ → Type 0
 Value nan a c = ⊥
 Value (inf s) a c = ⊥
 Value (fin s m e) a c = (T s → m ≡ 0) × (m * up e * c ≡ a * down e)
-
--- two tests that pass together are one
-pub alike : (p q : Bool) → (T p → T q) → (T q → T p) → p ≡ q
-alike true true f g = refl
-alike true false f g = absurd (f tt)
-alike false true f g = absurd (g tt)
-alike false false f g = refl
 
 -- ---- the order
 

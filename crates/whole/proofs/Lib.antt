@@ -1,3 +1,4 @@
+pub mod Bools
 pub mod Nested
 pub mod Order
 pub mod Parts

@@ -1,8 +1,9 @@
 -- Quotients rounded down and up: how far from the exact quotient, and that they grow with what is divided.
 -- Assumes nothing.
+use mathlib.Core.Path.{_≡_}
 use Prim.Native.Nat.{ℕ, suc, _+_, _-_, _*_, _≤_, _<_}
 use native.Mathlib.Omega.{arith}
-use native.Mathlib.Nat.{div-mul-le-self, lt-div-mul-add, le-div-iff-mul-le, div-lt-iff-lt-mul}
+use native.Mathlib.Nat.{div-mul-le-self, lt-div-mul-add, le-div-iff-mul-le, div-lt-iff-lt-mul, le-antisymm, lt-of-lt-of-le, lt-of-mul-lt-mul-right}
 use Rattle.whole.specs.Round.{down, up}
 
 -- rounded down, times the divisor: at most what was divided, and less than one divisor short of it
@@ -35,3 +36,18 @@ up-mono {a} {c} b h k = let f = le-up c b h in up-le (up c b) a b h (omega arith
 
 pub down-le-up : (a b : ℕ) → 0 < b → down a b ≤ up a b
 down-le-up a b h = let f = down-le a b in le-down (down a b) (a + (b - 1)) b h (omega arith)
+
+-- ---- a quotient rounded up, from the same rounded down: where it is whole it stays, elsewhere it is the next number
+
+pub up-whole : (a d : ℕ) → 0 < d → a ≤ down a d * d → up a d ≡ down a d
+up-whole a d D h = le-antisymm (up-le (down a d) a d D h) (down-le-up a d D)
+
+-- it is the next number at most
+pub up-le-next : (a d : ℕ) → 0 < d → up a d ≤ down a d + 1
+up-le-next a d D = let k = lt-down a d D in up-le (down a d + 1) a d D (omega arith)
+
+pub up-next : (a d : ℕ) → 0 < d → down a d * d < a → up a d ≡ down a d + 1
+up-next a d D h =
+    let k : down a d < up a d = lt-of-mul-lt-mul-right d (lt-of-lt-of-le h (le-up a d D)) in
+    let j = up-le-next a d D in
+    omega arith

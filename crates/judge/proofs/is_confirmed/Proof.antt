@@ -3,7 +3,7 @@ use mathlib.Core.Path.{sym, ap, _∙_}
 use borrow.Author.Needs.{needs}
 use Rattle.ends.specs.Ends.{lowerEnd, upperEnd}
 use Rattle.judge.specs.Verdict.{confirmed}
-use Rattle.judge.proofs.Branches.{then-and, else-and}
+use Rattle.whole.proofs.Bools.{then-and, else-and}
 use Rattle.judge.proofs.is_confirmed.Statement.{statement}
 use Rattle.judge.proofs.is_confirmed.Tie as tie
 

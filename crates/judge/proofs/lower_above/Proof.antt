@@ -1,7 +1,7 @@
 -- `judge::lower_above` meets its contract: the limit first, then the test. Assumes nothing.
 use borrow.Author.Needs.{needs}
 use borrow.Author.Tests.{le-leb, lt-leb}
-use Rattle.judge.proofs.Branches.{then-and, else-and}
+use Rattle.whole.proofs.Bools.{then-and, else-and}
 use Rattle.judge.proofs.lower_above.Statement.{statement}
 use Rattle.judge.proofs.lower_above.Tie as tie
 
