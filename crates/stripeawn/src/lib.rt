@@ -4,6 +4,7 @@ ghost use Rattle.series.specs.Entry.{sineRule};
 ghost use Rattle.ends.specs.Entry.{lowerRule, upperRule};
 ghost use Rattle.enclosure.specs.Enclosure.{enclosureRule};
 ghost use lib.ListN.{length};
+ghost use Rattle.proposal.specs.Propose.{proposalRule};
 ghost use Rattle.judge.specs.Judge.{judgeRule};
 ghost use Rattle.claims.specs.Record.{twenty};
 ghost use Rattle.claims.specs.Batch.{batchRule, answersAfter};
@@ -12,6 +13,7 @@ use enclosure::Enclosure;
 use ends::End;
 use judge::Claim;
 use judge::Judged;
+use proposal::Proposal;
 use series::SineBounds;
 
 #[no_mangle]
@@ -40,6 +42,13 @@ pub extern "C" fn stripeawn_enclose(m: u32, a: u32, depth: u32) -> Enclosure
     ensures { λ r. ⌜ r ≡ enclosureRule m a depth ⌝ }
 {
     enclosure::enclose(m, a, depth)
+}
+
+#[no_mangle]
+pub extern "C" fn stripeawn_propose(m: u32, a: u32) -> Proposal
+    ensures { λ r. ⌜ r ≡ proposalRule m a ⌝ }
+{
+    proposal::propose(m, a)
 }
 
 #[no_mangle]

@@ -3,3 +3,4 @@ pub mod Nested
 pub mod Order
 pub mod Parts
 pub mod Round
+pub mod Table

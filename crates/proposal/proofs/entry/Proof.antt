@@ -1,0 +1,25 @@
+-- `proposal::entry` meets its contract: the code's table is the definition's. Assumes nothing.
+use borrow.Author.Needs.{needs}
+use mir.Syntax.{w64}
+use mir.Facts.{toZ-pos}
+use Rattle.proposal.specs.Table.{table, entry}
+use Rattle.proposal.proofs.Size.{small-entry, small-fits}
+use Rattle.proposal.proofs.entry.Statement.{statement}
+use Rattle.proposal.proofs.entry.Tie as tie
+
+mul-result : tie.Need-mul-result
+mul-result c = search needs
+
+array-read-result : tie.Need-array-read-result
+array-read-result c = search needs
+
+cast-result : tie.Need-cast-result
+unfolding table entry
+cast-result c = small-fits (small-entry (c .args .k) (c .pre))
+
+returns : tie.Need-returns
+unfolding table entry
+returns c = toZ-pos w64 (small-fits (small-entry (c .args .k) (c .pre)) .sfits)
+
+pub entry-spec : {M : Type 1} → statement M
+entry-spec = tie.close (tie.spec mul-result array-read-result cast-result returns)

@@ -1,0 +1,56 @@
+-- `proposal::holds` meets its contract: the two ends of the width, tested one after the other. Assumes nothing.
+use mathlib.Core.Path.{_≡_}
+use mathlib.Core.Bool.{true, false}
+use Prim.Native.Nat.{_+_, _^_, _≤_}
+use native.Mathlib.Omega.{arith}
+use native.Mathlib.Nat.{min-le-right}
+use lib.Pow.{pow-mono}
+use borrow.Author.Needs.{needs}
+use Rattle.grid.specs.Grid.{T-units, depths}
+use Rattle.ends.specs.Ends.{lowerEnd}
+use Rattle.proposal.specs.Certify.{lowAt, certifies}
+use Rattle.proposal.proofs.holds.Statement.{statement}
+use Rattle.proposal.proofs.holds.Tie as tie
+
+width-of-requires : tie.Need-width-of-requires
+width-of-requires c κs = search needs
+
+low-at-requires : tie.Need-low-at-requires
+low-at-requires c κs = search needs
+
+high-at-requires : tie.Need-high-at-requires
+high-at-requires c κs =
+    let h : 2 ^ c .before .before .args .j ≤ 2 ^ 30 = pow-mono {j = 30} (omega arith) in omega arith
+
+lower-requires : tie.Need-lower-requires
+lower-requires c κs = search needs
+
+upper-requires : tie.Need-upper-requires
+upper-requires c κs =
+    let h = min-le-right (c .before .before .before .before .before .args .e + c .before .before .before .before .width-of .result) T-units in search needs
+
+returns : tie.Need-returns
+unfolding certifies
+returns c =
+    let a = c .before .before .before .before .before .before .args in
+    let t : lowerEnd (a .o) depths (lowAt (a .e) (a .j)) ≡ true = cc in
+    rw t (cc)
+
+returns-2 : tie.Need-returns-2
+unfolding certifies
+returns-2 c =
+    let a = c .before .before .before .before .before .args in
+    let t : lowerEnd (a .o) depths (lowAt (a .e) (a .j)) ≡ false = cc in
+    rw t
+
+pub holds-spec : {M : Type 1} → statement M
+holds-spec =
+    tie.close
+    (tie.spec
+    width-of-requires
+    low-at-requires
+    high-at-requires
+    lower-requires
+    upper-requires
+    returns
+    returns-2)

@@ -1,0 +1,23 @@
+-- `proposal::start` meets its contract. Assumes nothing.
+use Prim.Native.Nat.{_*_, _/_}
+use native.Mathlib.Omega.{arith}
+use mir.Syntax.{w64}
+use mir.Facts.{toZ-pos}
+use borrow.Author.Needs.{needs}
+use Rattle.proposal.specs.Rotate.{start}
+use Rattle.proposal.specs.Table.{G}
+use Rattle.proposal.proofs.start.Statement.{statement}
+use Rattle.proposal.proofs.start.Tie as tie
+
+mul-t2 : tie.Need-mul-t2
+mul-t2 c = search needs
+
+cast-t4 : tie.Need-cast-t4
+cast-t4 c = search needs
+
+returns : tie.Need-returns
+unfolding start G
+returns c = rw (toZ-pos w64 {n = c .args .a * 98987219 / 268435456} (omega arith))
+
+pub start-spec : {M : Type 1} → statement M
+start-spec = tie.close (tie.spec mul-t2 cast-t4 returns)

@@ -1,0 +1,38 @@
+-- The certificate: the section "The proposal".
+use Prim.Native.Nat.{ℕ, zero, suc, _+_, _-_, _^_, _<_, min}
+use mathlib.Core.Bool.{Bool, not, cond, _&&_}
+use lib.Dec.{T}
+use Rattle.grid.specs.Grid.{T-units, depths}
+use Rattle.ends.specs.Ends.{lowerEnd, upperEnd}
+use Rattle.ends.specs.declared.Orbit.{Orbit}
+
+-- "the greater of E - 2^j and 0": a difference of naturals is 0 where it would fall below
+abbrev pub lowAt : ℕ → ℕ → ℕ
+lowAt E j = E - 2 ^ j
+
+-- "the lesser of E + 2^j and T"
+abbrev pub highAt : ℕ → ℕ → ℕ
+highAt E j = min (E + 2 ^ j) T-units
+
+-- "is an accepted lower end and .. an accepted upper end, both at depth 5"
+unfoldable pub certifies : Orbit → ℕ → ℕ → Bool
+certifies o E j = lowerEnd o depths (lowAt E j) && upperEnd o depths (highAt E j)
+
+-- the first of the n numbers from i on that passes a test, and i + n where none does
+unfoldable pub firstFrom : (ℕ → Bool) → ℕ → ℕ → ℕ
+firstFrom test i zero = i
+firstFrom test i (suc n) = cond (test i) i (firstFrom test (suc i) n)
+
+-- "from 0 to 30": 31 widths
+abbrev pub widths : ℕ
+widths = 31
+
+-- "the smallest j from 0 to 30 such that"
+unfoldable pub certificate : Orbit → ℕ → ℕ
+certificate o E = firstFrom (certifies o E) 0 widths
+
+-- j is the smallest number below n that passes a test
+pub record Smallest (test : ℕ → Bool) (n j : ℕ) : Type 0 where
+  pub within : j < n
+  pub here : T (test j)
+  pub before : (k : ℕ) → k < j → T (not (test k))

@@ -1,0 +1,6 @@
+pub mod Atan
+pub mod Table
+pub mod Rotate
+pub mod Small
+pub mod Certify
+pub mod Propose

@@ -1,0 +1,48 @@
+-- What the inner functions ask of their numbers, so that no sum leaves the range of an i64. That the rotations keep to it
+-- from the start on is a law of their definition, among the proofs.
+use Prim.Native.Nat.{ℕ, _≤_, _<_}
+use lib.IntN.{ℤ, natAbs}
+use Rattle.grid.specs.Grid.{one, H-units, T-units}
+use Rattle.ends.specs.declared.Orbit.{Orbit}
+use Rattle.proposal.specs.Table.{entries}
+use Rattle.proposal.specs.Certify.{widths}
+use Rattle.proposal.specs.declared.State.{State}
+
+-- 2^40
+abbrev pub roomy : ℕ
+roomy = 1099511627776
+
+pub record Small (z : ℤ) : Type 0 where
+  pub small : natAbs z ≤ roomy
+
+pub record Room (s : State) : Type 0 where
+  pub e : Small (s .e)
+  pub x : Small (s .x)
+  pub y : Small (s .y)
+
+pub record Shiftable (z : ℤ) (k : ℕ) : Type 0 where
+  pub number : Small z
+  pub shift : k < entries
+
+pub record Turnable (s : State) (k : ℕ) : Type 0 where
+  pub room : Room s
+  pub shift : k < entries
+
+pub record Signable (s : State) (m : ℕ) : Type 0 where
+  pub room : Room s
+  pub mean : m ≤ roomy
+
+-- M from 0 to H and A from 0 to 2^28, as the checked constructor makes an orbit
+pub record OnGrid (o : Orbit) : Type 0 where
+  pub mean : o .m ≤ H-units
+  pub shape : o .a ≤ one
+
+-- what the certificate's test of a width asks
+pub record Triable (o : Orbit) (E j : ℕ) : Type 0 where
+  pub orbit : OnGrid o
+  pub angle : E ≤ T-units
+  pub width : j < widths
+
+pub record Concludable (o : Orbit) (s : State) : Type 0 where
+  pub orbit : OnGrid o
+  pub room : Room s
