@@ -4,4 +4,3 @@ pub mod Answer
 pub mod Refusals
 pub mod Ends
 pub mod Laws
-pub mod Starred

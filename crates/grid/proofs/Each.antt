@@ -3,8 +3,7 @@ use mathlib.Core.Path.{_≡_, refl}
 use mathlib.Core.Bool.{Bool, true, false, cond}
 use mathlib.Core.List.{List, [], _∷_}
 use Prim.Native.Nat.{ℕ}
-use Rattle.grid.specs.Codes.{Check, number, answer}
-use Rattle.grid.proofs.Made.{Passed}
+use Rattle.grid.specs.Codes.{Check, number, answer, Passed}
 
 -- P holds of the refusal of every check that fails
 abbrev pub Each : {A : Type 0} (P : A → Type 0) (refused : ℕ → A) → List Check → Type 0

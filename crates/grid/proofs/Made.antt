@@ -7,7 +7,7 @@ use Prim.Native.Nat.{ℕ, _≤_}
 use native.Mathlib.Omega.{arith}
 use borrow.Author.Tests.{ltb-false}
 use Rattle.grid.specs.Grid.{one, H-units, T-units, depths, N-units}
-use Rattle.grid.specs.Codes.{Check, or, number, answer, m-check, x-check, a-check, depth-check, n-check}
+use Rattle.grid.specs.Codes.{Check, Passed, or, number, answer, m-check, x-check, a-check, depth-check, n-check}
 
 -- an enum A that answers a value of B or a code
 pub record Answers (A B : Type 0) : Type 0 where
@@ -20,10 +20,6 @@ pub record Answers (A B : Type 0) : Type 0 where
 -- 0 is not 1: how `cc` says that two constructors are apart
 pub clash : _≡_ {A = ℕ} 0 1 → ⊥
 clash e = omega arith
-
-abbrev pub Passed : List Check → Type 0
-Passed [] = Unit {0}
-Passed (c ∷ cs) = (c .fails ≡ false) × Passed cs
 
 -- all checks passed, and any answer that begins with them goes on
 pub record Given (cs : List Check) : Type 1 where

@@ -1,5 +1,6 @@
 -- The codes and their order: the section "Codes".
 use Prim.Native.Nat.{ℕ}
+use mathlib.Core.Path.{_≡_}
 use mathlib.Core.Bool.{Bool, true, false, cond}
 use mathlib.Core.List.{List, [], _∷_}
 use lib.Dec.{ltb}
@@ -25,7 +26,7 @@ number reserved-not-zero = 9
 number x-above-T = 10
 
 -- "Order: 9, 1, 2, 3, 10, 4, 5, 6, as far as a call has that input"; "for the batch, 7 and then 8 come before any record is read"
-pub order : List Code
+unfoldable pub order : List Code
 order =
     claims-length ∷ answers-short ∷ reserved-not-zero ∷ m-above-H ∷ a-above-one ∷ depth-not-1-to-5
     ∷ x-above-T ∷ estimate-off-range ∷ n-above-limit ∷ T-no-upper-end ∷ []
@@ -58,6 +59,11 @@ x-check x = record { fails = ltb T-units x; code = x-above-T }
 -- "N above 65,535"
 abbrev pub n-check : ℕ → Check
 n-check n = record { fails = ltb N-units n; code = n-above-limit }
+
+-- none of a call's checks fails
+abbrev pub Passed : List Check → Type 0
+Passed [] = Unit {0}
+Passed (c ∷ cs) = (c .fails ≡ false) × Passed cs
 
 -- a call's code: that of the first of its checks that fails, and `done` where none does
 abbrev pub first : List Check → Code

@@ -8,8 +8,8 @@ use Prim.Native.Nat.{ℕ, _≤_, _<_}
 use native.Mathlib.Omega.{arith}
 use borrow.Author.Tests.{le-ltb}
 use Rattle.grid.specs.Grid.{T-units, depths}
-use Rattle.grid.specs.Codes.{Check, number, answer, depth-check}
-use Rattle.grid.proofs.Made.{Given, Passed, passes}
+use Rattle.grid.specs.Codes.{Check, number, answer, depth-check, Passed}
+use Rattle.grid.proofs.Made.{Given, passes}
 use Rattle.ends.specs.Exact.{LowerExact, UpperExact}
 use Rattle.judge.specs.Verdict.{lowEnd, highEnd, verdictOf, verdictNumber}
 use Rattle.judge.specs.Judge.{claimChecks, caseAt, caseVerdict, judgeRule}
@@ -18,14 +18,11 @@ use Rattle.judge.specs.declared.Judged.{Judged}
 use Rattle.judge.specs.declared.Verdict.{Verdict}
 use Rattle.judge.specs.declared.Verdict.the-variants.{Confirmed, Refuted, Undecided}
 use Rattle.judge.proofs.Checks.{tested}
-use Rattle.judge.proofs.Laws.{ConfirmedExact, AboveExact, BelowExact, is-confirmed, is-refuted, confirmed-exact, refuted-exact, confirmed-kept, refuted-kept, outside}
+use Rattle.judge.specs.Exact.{ConfirmedExact, AboveExact, BelowExact, verdict, atDepth}
+use Rattle.judge.proofs.Laws.{is-confirmed, is-refuted, confirmed-exact, refuted-exact, confirmed-kept, refuted-kept, outside}
 
 abbrev refusal : ℕ → Judged
 refusal code = record { code = code; verdict = 0 }
-
--- the answer with no code
-abbrev pub verdict : ℕ → Judged
-verdict v = record { code = 0; verdict = v }
 
 -- no check answers 0
 abbrev Coded : List Check → Type 0
@@ -72,10 +69,6 @@ by-17 : (v : Verdict) → verdictNumber v ≡ 17 → v ≡ Refuted
 by-17 Confirmed e = absurd (let z : ⊥ = omega arith in z)
 by-17 Refuted e = refl
 by-17 Undecided e = absurd (let z : ⊥ = omega arith in z)
-
--- the same claim at another depth
-abbrev pub atDepth : Claim → ℕ → Claim
-atDepth k e = record { m = k .m; a = k .a; estimate = k .estimate; n = k .n; depth = e }
 
 module _ (k : Claim) where
   confirmed-case : judgeRule k ≡ verdict 16 → verdictOf (caseAt k .o) (k .depth) (caseAt k .u) (k .n) ≡ Confirmed

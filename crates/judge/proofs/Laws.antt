@@ -14,22 +14,9 @@ use Rattle.ends.specs.Exact.{LowerExact, UpperExact}
 use Rattle.ends.proofs.Exact.{lower-true, upper-true, lower-deeper, upper-deeper}
 use Rattle.ends.proofs.Apart.{exact-apart}
 use Rattle.units.specs.declared.Units.{Units}
+use Rattle.judge.specs.Exact.{ConfirmedExact, AboveExact, BelowExact}
 use Rattle.judge.specs.Verdict.{lowEnd, highEnd, confirmed, lowerAbove, upperBelow, refuted, verdictOf}
 use Rattle.judge.specs.declared.Verdict.the-variants.{Confirmed, Refuted, Undecided}
-
--- the exact inequalities at p and q
-pub record ConfirmedExact (o : Orbit) (u : Units) (n : ℕ) : Type 0 where
-  pub lower : LowerExact o (lowEnd u n)
-  pub upper : UpperExact o (highEnd u n)
-
--- the exact inequality at the refuting end, above q or below p
-pub record AboveExact (o : Orbit) (u : Units) (n : ℕ) : Type 0 where
-  pub within : u .f + n + 1 ≤ T-units
-  pub lower : LowerExact o (u .f + n + 1)
-
-pub record BelowExact (o : Orbit) (u : Units) (n : ℕ) : Type 0 where
-  pub within : n + 1 ≤ u .c
-  pub upper : UpperExact o (u .c - (n + 1))
 
 -- ---- tests taken apart
 

@@ -9,7 +9,7 @@ use Rattle.ends.specs.Ends.{lowerEnd, upperEnd}
 use Rattle.units.specs.Units.{offRange}
 use Rattle.judge.specs.Verdict.{confirmed, refuted, verdictOf}
 use Rattle.judge.specs.Judge.{judgeRule}
-use Rattle.judge.proofs.Entry.{verdict}
+use Rattle.judge.specs.Exact.{verdict}
 
 -- "Claim 1: eighteen 00, then 01 00": Confirmed
 pub claim-1 : judgeRule (record { m = 0; a = 0; estimate = fin false 0 (pos 0); n = 0; depth = 1 }) ≡ verdict 16

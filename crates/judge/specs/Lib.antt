@@ -1,3 +1,4 @@
 pub mod Verdict
 pub mod Judge
+pub mod Exact
 pub mod Fair

@@ -10,7 +10,6 @@ pub mod Range
 pub mod Raw
 pub mod Rise
 pub mod Sides
-pub mod Starred
 pub mod Sums
 pub mod True
 pub mod Truth

@@ -1,0 +1,31 @@
+-- What a verdict says in exact fractions, for the promises: the ends that a claim's tolerance names.
+use Prim.Native.Nat.{ℕ, _+_, _-_, _≤_}
+use Rattle.grid.specs.Grid.{T-units}
+use Rattle.ends.specs.declared.Orbit.{Orbit}
+use Rattle.ends.specs.Exact.{LowerExact, UpperExact}
+use Rattle.units.specs.declared.Units.{Units}
+use Rattle.judge.specs.Verdict.{lowEnd, highEnd}
+use Rattle.judge.specs.declared.Claim.{Claim}
+use Rattle.judge.specs.declared.Judged.{Judged}
+
+-- the exact inequalities at p and q
+pub record ConfirmedExact (o : Orbit) (u : Units) (n : ℕ) : Type 0 where
+  pub lower : LowerExact o (lowEnd u n)
+  pub upper : UpperExact o (highEnd u n)
+
+-- the exact inequality at the refuting end, above q or below p
+pub record AboveExact (o : Orbit) (u : Units) (n : ℕ) : Type 0 where
+  pub within : u .f + n + 1 ≤ T-units
+  pub lower : LowerExact o (u .f + n + 1)
+
+pub record BelowExact (o : Orbit) (u : Units) (n : ℕ) : Type 0 where
+  pub within : n + 1 ≤ u .c
+  pub upper : UpperExact o (u .c - (n + 1))
+
+-- the answer with no code
+abbrev pub verdict : ℕ → Judged
+verdict v = record { code = 0; verdict = v }
+
+-- the same claim at another depth
+abbrev pub atDepth : Claim → ℕ → Claim
+atDepth k e = record { m = k .m; a = k .a; estimate = k .estimate; n = k .n; depth = e }

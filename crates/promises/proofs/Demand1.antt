@@ -1,0 +1,94 @@
+-- The first demand is met. Assumes nothing.
+use mathlib.Core.Path.{_≡_, refl, sym, ap, _∙_, subst}
+use mathlib.Core.Bool.{Bool, true, false, cond}
+use mathlib.Core.List.{List, [], _∷_}
+use Prim.Native.Nat.{ℕ, _*_, _/_}
+use lib.IntN.{pos}
+use lib.ListN.{length}
+use Rattle.grid.specs.Codes.{Code, number, order, answer, done, m-above-H, a-above-one, depth-not-1-to-5, estimate-off-range, n-above-limit, T-no-upper-end, claims-length, answers-short, reserved-not-zero, x-above-T}
+use Rattle.series.specs.Sine.{Lo, Hi}
+use Rattle.series.specs.Entry.{sineRule}
+use Rattle.series.specs.declared.SineBounds.{SineBounds}
+use Rattle.ends.specs.declared.Orbit.{Orbit}
+use Rattle.ends.specs.declared.End.{End}
+use Rattle.ends.specs.Ends.{lowerEnd, upperEnd}
+use Rattle.ends.specs.Entry.{orbitChecks, orbitAt, questionChecks, flagged, endRule, lowerRule, upperRule}
+use Rattle.enclosure.specs.Enclosure.{refusal, enclosed, enclosureRule}
+use Rattle.enclosure.specs.declared.Enclosure.{Enclosure}
+use Rattle.proposal.specs.Rotate.{rotated}
+use Rattle.proposal.specs.Propose.{concluded, refused, proposalRule}
+use Rattle.proposal.specs.declared.Proposal.{Proposal}
+use Rattle.judge.specs.Verdict.{verdictOf, verdictNumber}
+use Rattle.judge.specs.Judge.{claimChecks, caseAt, caseVerdict, judgeRule}
+use Rattle.judge.specs.declared.Claim.{Claim}
+use Rattle.judge.specs.declared.Judged.{Judged}
+use Rattle.judge.specs.declared.Verdict.{Verdict}
+use Rattle.judge.specs.declared.Verdict.the-variants.{Confirmed, Refuted, Undecided}
+use Rattle.claims.specs.Record.{twenty, reserved-check, byteOf, claimAt, answerAt}
+use Rattle.claims.specs.Batch.{batchRule}
+use Rattle.claims.specs.declared.Batch.{Batch}
+use Rattle.claims.proofs.LawsAnswers.{refused-kept}
+use Rattle.promises.specs.Refuses.{Refuses}
+use Rattle.promises.specs.Demand1.{sineChecks, enclosureChecks, batchChecks, recordChecks, codeOfByte, batchOf, Demand1}
+use Rattle.promises.proofs.Conditions.{conditions}
+use Rattle.promises.proofs.Refuses.{refuses, through}
+
+flag-done : (t : Bool) → flagged t .code ≡ 0
+flag-done true = refl
+flag-done false = refl
+
+-- either end
+pub ends : (end : Orbit → ℕ → ℕ → Bool) (x m a d : ℕ)
+    → Refuses (questionChecks x m a d) (λ (r : End). r .code) (λ k. record { code = k; accepted = 0 }) (endRule end x m a d)
+ends end x m a d = refuses (λ k. refl) (flagged (end (orbitAt m a) d x)) (flag-done (end (orbitAt m a) d x)) tt
+
+verdict-code : (v : Verdict) → codeOfByte (verdictNumber v) ≡ 0
+verdict-code Confirmed = refl
+verdict-code Refuted = refl
+verdict-code Undecided = refl
+
+code-byte : (k : Code) → codeOfByte (number k) ≡ number k
+code-byte done = refl
+code-byte m-above-H = refl
+code-byte a-above-one = refl
+code-byte depth-not-1-to-5 = refl
+code-byte estimate-off-range = refl
+code-byte n-above-limit = refl
+code-byte T-no-upper-end = refl
+code-byte claims-length = refl
+code-byte answers-short = refl
+code-byte reserved-not-zero = refl
+code-byte x-above-T = refl
+
+-- the byte of a record by all the record's checks
+pub byte-is : (claims : List ℕ) (i : ℕ)
+    → answerAt twenty claims i ≡ answer (recordChecks claims i) (λ (k : ℕ). k) (caseVerdict (caseAt (claimAt twenty claims i)))
+unfolding answerAt judgeRule
+byte-is claims i =
+    let c = claimAt twenty claims i in
+    ap (λ (b : ℕ). answer (reserved-check twenty claims (i * 20) ∷ []) (λ (k : ℕ). k) b)
+    (through byteOf (λ k. record { code = k; verdict = 0 }) (record { code = 0; verdict = caseVerdict (caseAt c) }) (claimChecks c))
+
+bytes : (claims : List ℕ) (i : ℕ) → Refuses (recordChecks claims i) codeOfByte (λ k. k) (answerAt twenty claims i)
+bytes claims i =
+    let k = caseAt (claimAt twenty claims i) in
+    subst (Refuses (recordChecks claims i) codeOfByte (λ k. k)) (sym (byte-is claims i))
+    (refuses code-byte (caseVerdict k) (verdict-code (verdictOf (k .o) (k .d .pairs) (k .u) (k .n))) tt)
+
+pub demand-1 : Demand1
+unfolding sineRule proposalRule concluded judgeRule batchRule order
+demand-1 =
+    record {
+      sine = λ x d. refuses (λ k. refl) (record { code = 0; lo = Lo x d; hi = Hi x d }) refl tt;
+      lower-end = ends lowerEnd;
+      upper-end = ends upperEnd;
+      enclose = λ m a d. refuses (λ k. refl) (enclosed (orbitAt m a) d) refl tt;
+      propose = λ m a. refuses (λ k. refl) (concluded (orbitAt m a) (rotated (orbitAt m a))) refl tt;
+      judge = λ c. refuses (λ k. refl) (record { code = 0; verdict = caseVerdict (caseAt c) }) refl tt;
+      batch = λ claims answers. refuses (λ k. refl) (record { code = 0; count = length claims / 20 }) refl tt;
+      lent = refused-kept twenty;
+      byte = bytes;
+      in-order = λ x m a d i c claims answers. tt;
+      conditions = conditions;
+      own = tt;
+    }

@@ -1,0 +1,10 @@
+pub mod Refuses
+pub mod Conditions
+pub mod Demand1
+pub mod Rules
+pub mod Ends
+pub mod Bytes
+pub mod Demand2
+pub mod Demand3
+pub mod Starred
+pub mod Unique

@@ -1,0 +1,36 @@
+-- The numbers to hold against, computed from the definitions. Assumes nothing.
+use mathlib.Core.Path.{refl}
+use lib.Ieee.{ofBits}
+use Rattle.series.specs.Terms.{l, u}
+use Rattle.series.specs.Bounds.{evens, odds, rawLow, rawHigh, greatestLow, leastHigh}
+use Rattle.series.specs.Entry.{sineRule}
+use Rattle.ends.specs.Ends.{lowerEnd, upperEnd}
+use Rattle.ends.specs.Entry.{lowerRule, upperRule}
+use Rattle.enclosure.specs.Halving.{halve, turns}
+use Rattle.enclosure.specs.Enclosure.{lowerAnswer, upperAnswer}
+use Rattle.enclosure.proofs.Laws.{circle}
+use Rattle.units.specs.Units.{offRange}
+use Rattle.judge.specs.Verdict.{confirmed, refuted, verdictOf}
+use Rattle.judge.specs.Judge.{judgeRule}
+use Rattle.claims.specs.LittleEndian.{littleEndian}
+use Rattle.claims.specs.Record.{answerAt}
+use Rattle.claims.specs.Batch.{batchRule, upTo, answersAfter}
+use Rattle.promises.specs.Starred.{AllHold, starred, others, Starred}
+
+infixr 4 _and_
+_and_ : {A B : Type 0} → A → B → A × B
+p and q = (p, q)
+
+list : AllHold starred
+unfolding starred sineRule l u evens odds rawLow rawHigh greatestLow leastHigh lowerEnd upperEnd halve turns lowerAnswer upperAnswer offRange ofBits
+list =
+    refl and refl and refl and refl and refl and refl and refl and refl and (refl, refl) and refl and refl and refl and refl
+    and refl and refl and refl and refl and refl and refl and refl and refl and refl and refl and refl and tt
+
+beside : AllHold others
+unfolding others l u evens odds rawLow rawHigh greatestLow leastHigh lowerEnd upperEnd offRange ofBits verdictOf confirmed refuted judgeRule littleEndian answerAt batchRule upTo answersAfter
+beside =
+    (refl, refl) and (refl, refl) and (refl, refl) and (refl, refl) and (refl, refl) and (refl, refl) and refl and tt
+
+pub starred-met : Starred
+starred-met = record { list = list; beside = beside; circle = circle }

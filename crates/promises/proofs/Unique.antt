@@ -1,0 +1,30 @@
+-- Every public entry has one result for each input. Assumes nothing.
+use mathlib.Core.Path.{_≡_, sym, ap₂, _∙_}
+use mathlib.Core.List.{List}
+use Prim.Native.Nat.{ℕ}
+use Rattle.claims.specs.declared.Batch.{Batch}
+use Rattle.promises.specs.Unique.{OneResult, Left, BatchAllows, Unique}
+
+-- a contract that says what the result is
+one : {A : Type 0} (rule : A) → OneResult (λ (r : A). r ≡ rule)
+one rule r s e f = e ∙ sym f
+
+pub unique : Unique
+unique =
+    record {
+      sine = λ x d. one _;
+      lower-end = λ x m a d. one _;
+      upper-end = λ x m a d. one _;
+      enclose = λ m a d. one _;
+      propose = λ m a. one _;
+      judge = λ c. one _;
+      judge-claims = λ claims before r s e f.
+          ap₂ (λ (b : Batch) (l : List ℕ). record { result = b; answers = l }) (e .result ∙ sym (f .result))
+          (e .answers ∙ sym (f .answers));
+      angle = λ n. one _;
+      eccentricity = λ n. one _;
+      depth = λ n. one _;
+      orbit = λ m a. one _;
+      question = λ x m a d. one _;
+      in-units = λ e. one _;
+    }

@@ -1,0 +1,58 @@
+-- "Show for each that any two results allowed for one input are equal". What a public entry's contract allows is written here
+-- as in the contract; of the batch, what it returns and the answers buffer that it leaves, together.
+use mathlib.Core.Path.{_≡_}
+use mathlib.Core.List.{List}
+use Prim.Native.Nat.{ℕ}
+use lib.Ieee.{Float}
+use lib.ListN.{length}
+use Rattle.grid.specs.Make.{angleOf, eccentricityOf, depthOf}
+use Rattle.grid.specs.declared.AngleOr.{AngleOr}
+use Rattle.grid.specs.declared.EccentricityOr.{EccentricityOr}
+use Rattle.grid.specs.declared.DepthOr.{DepthOr}
+use Rattle.series.specs.Entry.{sineRule}
+use Rattle.series.specs.declared.SineBounds.{SineBounds}
+use Rattle.ends.specs.Entry.{orbitOf, questionOf, lowerRule, upperRule}
+use Rattle.ends.specs.declared.OrbitOr.{OrbitOr}
+use Rattle.ends.specs.declared.QuestionOr.{QuestionOr}
+use Rattle.ends.specs.declared.End.{End}
+use Rattle.enclosure.specs.Enclosure.{enclosureRule}
+use Rattle.enclosure.specs.declared.Enclosure.{Enclosure}
+use Rattle.proposal.specs.Propose.{proposalRule}
+use Rattle.proposal.specs.declared.Proposal.{Proposal}
+use Rattle.units.specs.Units.{unitsOf}
+use Rattle.units.specs.declared.UnitsOr.{UnitsOr}
+use Rattle.judge.specs.Judge.{judgeRule}
+use Rattle.judge.specs.declared.Claim.{Claim}
+use Rattle.judge.specs.declared.Judged.{Judged}
+use Rattle.claims.specs.Record.{twenty}
+use Rattle.claims.specs.Batch.{batchRule, answersAfter}
+use Rattle.claims.specs.declared.Batch.{Batch}
+
+-- any two results that a contract allows are equal
+abbrev pub OneResult : {A : Type 0} → (A → Type 0) → Type 0
+OneResult {A} Allowed = (r s : A) → Allowed r → Allowed s → r ≡ s
+
+-- a batch's result, and the answers buffer after it
+pub record Left : Type 0 where
+  pub result : Batch
+  pub answers : List ℕ
+
+pub record BatchAllows (claims before : List ℕ) (l : Left) : Type 0 where
+  pub result : l .result ≡ batchRule twenty (length claims) (length before)
+  pub answers : l .answers ≡ answersAfter twenty claims before
+
+pub record Unique : Type 0 where
+  pub sine : (x depth : ℕ) → OneResult (λ (r : SineBounds). r ≡ sineRule x depth)
+  pub lower-end : (x m a depth : ℕ) → OneResult (λ (r : End). r ≡ lowerRule x m a depth)
+  pub upper-end : (x m a depth : ℕ) → OneResult (λ (r : End). r ≡ upperRule x m a depth)
+  pub enclose : (m a depth : ℕ) → OneResult (λ (r : Enclosure). r ≡ enclosureRule m a depth)
+  pub propose : (m a : ℕ) → OneResult (λ (r : Proposal). r ≡ proposalRule m a)
+  pub judge : (claim : Claim) → OneResult (λ (r : Judged). r ≡ judgeRule claim)
+  pub judge-claims : (claims before : List ℕ) → OneResult (BatchAllows claims before)
+  -- the checked constructors, and a double in units
+  pub angle : (units : ℕ) → OneResult (λ (r : AngleOr). r ≡ angleOf units)
+  pub eccentricity : (units : ℕ) → OneResult (λ (r : EccentricityOr). r ≡ eccentricityOf units)
+  pub depth : (pairs : ℕ) → OneResult (λ (r : DepthOr). r ≡ depthOf pairs)
+  pub orbit : (m a : ℕ) → OneResult (λ (r : OrbitOr). r ≡ orbitOf m a)
+  pub question : (x m a depth : ℕ) → OneResult (λ (r : QuestionOr). r ≡ questionOf x m a depth)
+  pub in-units : (estimate : Float) → OneResult (λ (r : UnitsOr). r ≡ unitsOf estimate)
