@@ -1,7 +1,6 @@
 -- Each check fails exactly when the table says. Assumes nothing.
-use mathlib.Core.Path.{_≡_, refl, sym, ap, _∙_, subst}
+use mathlib.Core.Path.{_≡_, refl, sym, ap}
 use mathlib.Core.Bool.{Bool, true, false, not, _&&_, true≢false}
-use mathlib.Core.List.{List}
 use mathlib.Core.Logic.{_⊎_, inl, inr, _↔_}
 use Prim.Native.Nat.{ℕ, _+_, _*_, _<_}
 use borrow.Author.Tests.{ltb-true, lt-ltb, eqb-false, ne-eqb, not-true}
@@ -10,7 +9,6 @@ use lib.Ieee.{Float, nan, inf, fin}
 use lib.Ieee.Positive.{den}
 use Rattle.grid.specs.Grid.{T-units}
 use Rattle.grid.specs.Codes.{or}
-use Rattle.ends.specs.declared.Orbit.{Orbit}
 use Rattle.ends.specs.Ends.{upperEnd}
 use Rattle.units.specs.Units.{product, offRange, estimate-check}
 use Rattle.claims.proofs.LawsLittle.{one-byte}

@@ -1,39 +1,32 @@
 -- The first demand is met. Assumes nothing.
-use mathlib.Core.Path.{_≡_, refl, sym, ap, _∙_, subst}
-use mathlib.Core.Bool.{Bool, true, false, cond}
+use mathlib.Core.Path.{_≡_, refl, sym, ap, subst}
+use mathlib.Core.Bool.{Bool, true, false}
 use mathlib.Core.List.{List, [], _∷_}
 use Prim.Native.Nat.{ℕ, _*_, _/_}
-use lib.IntN.{pos}
 use lib.ListN.{length}
 use Rattle.grid.specs.Codes.{Code, number, order, answer, done, m-above-H, a-above-one, depth-not-1-to-5, estimate-off-range, n-above-limit, T-no-upper-end, claims-length, answers-short, reserved-not-zero, x-above-T}
 use Rattle.series.specs.Sine.{Lo, Hi}
 use Rattle.series.specs.Entry.{sineRule}
-use Rattle.series.specs.declared.SineBounds.{SineBounds}
 use Rattle.ends.specs.declared.Orbit.{Orbit}
 use Rattle.ends.specs.declared.End.{End}
 use Rattle.ends.specs.Ends.{lowerEnd, upperEnd}
-use Rattle.ends.specs.Entry.{orbitChecks, orbitAt, questionChecks, flagged, endRule, lowerRule, upperRule}
-use Rattle.enclosure.specs.Enclosure.{refusal, enclosed, enclosureRule}
-use Rattle.enclosure.specs.declared.Enclosure.{Enclosure}
+use Rattle.ends.specs.Entry.{orbitAt, questionChecks, flagged, endRule}
+use Rattle.enclosure.specs.Enclosure.{enclosed}
 use Rattle.proposal.specs.Rotate.{rotated}
-use Rattle.proposal.specs.Propose.{concluded, refused, proposalRule}
-use Rattle.proposal.specs.declared.Proposal.{Proposal}
+use Rattle.proposal.specs.Propose.{concluded, proposalRule}
 use Rattle.judge.specs.Verdict.{verdictOf, verdictNumber}
 use Rattle.judge.specs.Judge.{claimChecks, caseAt, caseVerdict, judgeRule}
-use Rattle.judge.specs.declared.Claim.{Claim}
-use Rattle.judge.specs.declared.Judged.{Judged}
 use Rattle.judge.specs.declared.Verdict.{Verdict}
 use Rattle.judge.specs.declared.Verdict.the-variants.{Confirmed, Refuted, Undecided}
 use Rattle.claims.specs.Record.{twenty, reserved-check, byteOf, claimAt, answerAt}
 use Rattle.claims.specs.Batch.{batchRule}
-use Rattle.claims.specs.declared.Batch.{Batch}
 use Rattle.claims.proofs.LawsAnswers.{refused-kept}
 use Rattle.promises.specs.Refuses.{Refuses}
-use Rattle.promises.specs.Demand1.{sineChecks, enclosureChecks, batchChecks, recordChecks, codeOfByte, batchOf, Demand1}
+use Rattle.promises.specs.Demand1.{recordChecks, codeOfByte, Demand1}
 use Rattle.promises.proofs.Conditions.{conditions}
 use Rattle.promises.proofs.Refuses.{refuses, through}
 
-flag-done : (t : Bool) → flagged t .code ≡ 0
+pub flag-done : (t : Bool) → flagged t .code ≡ 0
 flag-done true = refl
 flag-done false = refl
 

@@ -1,9 +1,8 @@
 -- The second demand is met. Assumes nothing.
-use mathlib.Core.Path.{_≡_, refl, sym, ap, _∙_, subst}
-use mathlib.Core.Bool.{Bool, true, false}
-use mathlib.Core.List.{[], _∷_}
+use mathlib.Core.Path.{_≡_, refl}
+use mathlib.Core.Bool.{true}
 use mathlib.Core.Logic.{inl, inr, ⊎-elim}
-use Prim.Native.Nat.{ℕ, suc, _+_, _-_, _^_, _≤_}
+use Prim.Native.Nat.{ℕ, _+_, _-_, _^_, _≤_}
 use native.Mathlib.Omega.{arith}
 use native.Mathlib.Nat.{min-le-right}
 use native.Mathlib.Numerals.{add-one}
@@ -12,15 +11,12 @@ use lib.IntN.{pos, _+ℤ_}
 use lib.Signed.{_≤ℤ_}
 use Rattle.whole.proofs.Table.{both-parts}
 use Rattle.grid.specs.Grid.{one, H-units, T-units, depths}
-use Rattle.grid.proofs.Made.{passes, m-fits, a-fits, depth-fits, x-fits}
-use Rattle.series.specs.Sine.{Lo, Hi}
+use Rattle.grid.proofs.Made.{m-fits, a-fits, depth-fits, x-fits}
 use Rattle.series.specs.Entry.{sineRule}
-use Rattle.series.specs.declared.SineBounds.{SineBounds}
 use Rattle.series.proofs.True.{Lo-true, Hi-true}
 use Rattle.series.proofs.Width.{width-5}
 use Rattle.ends.specs.Ends.{lowerEnd, upperEnd}
-use Rattle.ends.specs.Entry.{orbitAt, orbitChecks, flagged, lowerRule, upperRule}
-use Rattle.ends.specs.Exact.{LowerExact, UpperExact, LowerSpare, UpperSpare}
+use Rattle.ends.specs.Entry.{orbitAt, flagged, lowerRule, upperRule}
 use Rattle.ends.proofs.Exact.{lower-true, upper-true, lower-spare, upper-spare}
 use Rattle.enclosure.specs.Enclosure.{enclosureRule}
 use Rattle.enclosure.proofs.Laws.{Encloses, code-zero, encloses}
@@ -28,13 +24,11 @@ use Rattle.enclosure.specs.declared.Enclosure.{Enclosure}
 use Rattle.proposal.specs.declared.State.{State}
 use Rattle.proposal.specs.Rotate.{rotated, brought}
 use Rattle.proposal.specs.Certify.{lowAt, highAt, certifies, certificate}
-use Rattle.proposal.specs.Propose.{concluded, refused, proposalRule}
-use Rattle.proposal.specs.declared.Proposal.{Proposal}
+use Rattle.proposal.specs.Propose.{concluded, proposalRule}
 use Rattle.proposal.proofs.Ranges.{brought-within}
 use Rattle.proposal.proofs.Certificate.{certificate-only, concluded-smallest, concluded-true}
 use Rattle.judge.proofs.Entry.{confirmed-says, refuted-says}
 use Rattle.claims.specs.Record.{twenty, claimAt}
-use Rattle.promises.specs.Demand1.{sineChecks}
 use Rattle.promises.specs.Demand2.{SineTrue, EndsTrue, Certified, Demand2}
 use Rattle.promises.proofs.Demand1.{demand-1}
 use Rattle.promises.proofs.Ends.{Asked, accepted-says, declined-says, accepts, declines}

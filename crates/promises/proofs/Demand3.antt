@@ -10,7 +10,7 @@ use native.Mathlib.Decide.{decLe}
 use Rattle.grid.specs.Grid.{depths}
 use Rattle.grid.proofs.Made.{passes}
 use Rattle.ends.specs.Ends.{lowerEnd, upperEnd}
-use Rattle.ends.specs.Entry.{orbitAt, lowerRule, upperRule}
+use Rattle.ends.specs.Entry.{orbitAt}
 use Rattle.ends.proofs.Apart.{apart}
 use Rattle.enclosure.proofs.Laws.{deeper-within}
 use Rattle.judge.specs.Judge.{judgeRule}

@@ -4,32 +4,21 @@ use mathlib.Core.Bool.{Bool, true, false, not}
 use Prim.Native.Nat.{ℕ}
 use native.Mathlib.Omega.{arith}
 use borrow.Author.Tests.{le-ltb}
-use lib.Dec.{T}
+use lib.Dec.{T, T-not}
+use Rattle.whole.proofs.Bools as test
 use Rattle.grid.specs.Codes.{Passed}
 use Rattle.grid.proofs.Made.{passes, m-fits, a-fits, depth-fits, x-fits}
 use Rattle.ends.specs.declared.Orbit.{Orbit}
 use Rattle.ends.specs.declared.End.{End}
 use Rattle.ends.specs.Fair.{Fair}
 use Rattle.ends.specs.Entry.{orbitAt, questionChecks, flagged, endRule}
-use Rattle.promises.proofs.Demand1.{ends}
+use Rattle.promises.proofs.Demand1.{flag-done, ends}
 
 is-test : (s t : Bool) → flagged s ≡ flagged t → s ≡ t
 is-test true true e = refl
 is-test true false e = let f = ap (λ (r : End). r .accepted) e in absurd (let z : ⊥ = omega arith in z)
 is-test false true e = let f = ap (λ (r : End). r .accepted) e in absurd (let z : ⊥ = omega arith in z)
 is-test false false e = refl
-
-passed : (t : Bool) → T t → t ≡ true
-passed true h = refl
-passed false h = absurd h
-
-failed : (t : Bool) → T (not t) → t ≡ false
-failed true h = absurd h
-failed false h = refl
-
-flag-code : (t : Bool) → flagged t .code ≡ 0
-flag-code true = refl
-flag-code false = refl
 
 -- the four numbers are within their limits
 abbrev pub Asked : ℕ → ℕ → ℕ → ℕ → Type 0
@@ -53,7 +42,7 @@ module _ (end : Orbit → ℕ → ℕ → Bool) (x m a d : ℕ) where
 
   known : (t : Bool) → endRule end x m a d ≡ flagged t → Asked x m a d × (end (orbitAt m a) d x ≡ t)
   known t e =
-      let p = ends end x m a d .done .0 (ap (λ (r : End). r .code) e ∙ flag-code t) in
+      let p = ends end x m a d .done .0 (ap (λ (r : End). r .code) e ∙ flag-done t) in
       (asked x m a d p, is-test (end (orbitAt m a) d x) t (sym (answered p) ∙ e))
 
   -- what an answer of code 0 says: what was asked, and what the test was
@@ -65,7 +54,7 @@ module _ (end : Orbit → ℕ → ℕ → Bool) (x m a d : ℕ) where
 
   -- and the answer from these
   pub accepts : Asked x m a d → T (end (orbitAt m a) d x) → endRule end x m a d ≡ flagged true
-  accepts f t = answered (checked x m a d f) ∙ ap flagged (passed (end (orbitAt m a) d x) t)
+  accepts f t = answered (checked x m a d f) ∙ ap flagged (sym (test.passes (end (orbitAt m a) d x) t))
 
   pub declines : Asked x m a d → T (not (end (orbitAt m a) d x)) → endRule end x m a d ≡ flagged false
-  declines f t = answered (checked x m a d f) ∙ ap flagged (failed (end (orbitAt m a) d x) t)
+  declines f t = answered (checked x m a d f) ∙ ap flagged (sym (test.fails (end (orbitAt m a) d x) (T-not (end (orbitAt m a) d x) t)))

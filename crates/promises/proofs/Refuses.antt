@@ -3,19 +3,16 @@ use mathlib.Core.Path.{_≡_, refl, sym, ap, _∙_}
 use mathlib.Core.Bool.{Bool, true, false, cond, true≢false}
 use mathlib.Core.List.{List, [], _∷_}
 use mathlib.Core.Logic.{_⊎_, inl, inr, _↔_}
-use Prim.Native.Nat.{ℕ, _≤_, _<_}
+use Prim.Native.Nat.{ℕ, _<_}
 use native.Mathlib.Omega.{arith}
 use lib.Dec.{T, ltb, ltb→lt}
+use Rattle.whole.proofs.Table.{both-parts}
 use Rattle.grid.specs.Codes.{Code, Check, number, first, answer, Passed}
 use Rattle.promises.specs.Refuses.{FirstFails, Refuses, all}
 
 -- no code of a check is 0
 abbrev pub coded : List Check → Bool
 coded cs = all (λ (c : Check). ltb 0 (number (c .code))) cs
-
-both : (s t : Bool) → T (cond s t false) → T s × T t
-both true t h = (tt, h)
-both false t h = absurd h
 
 module _ {A : Type 0} (code : A → ℕ) (zeros : ℕ → A) where
   -- one check more: it fails, or the rest answers
@@ -65,7 +62,7 @@ module _ {A : Type 0} {code : A → ℕ} {zeros : ℕ → A}
   refuses {cs = c ∷ cs} t =
       let n = number (c .code) in
       let r = answer cs zeros given in
-      let b = both (ltb 0 n) (coded cs) t in
+      let b = both-parts (ltb 0 n) (coded cs) t in
       let h = refuses {cs = cs} (b .1) in
       let o = own (c .code) in
       record {

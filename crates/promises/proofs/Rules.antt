@@ -1,5 +1,5 @@
 -- With code 0 an entry's answer is what its rule gives. Assumes nothing.
-use mathlib.Core.Path.{_≡_, refl, sym, _∙_, subst}
+use mathlib.Core.Path.{_≡_, refl, _∙_}
 use mathlib.Core.List.{List}
 use Prim.Native.Nat.{ℕ, _/_}
 use lib.ListN.{length}
@@ -8,7 +8,7 @@ use Rattle.grid.proofs.Made.{passes}
 use Rattle.series.specs.Sine.{Lo, Hi}
 use Rattle.series.specs.Entry.{sineRule}
 use Rattle.ends.specs.Ends.{lowerEnd, upperEnd}
-use Rattle.ends.specs.Entry.{orbitAt, flagged, lowerRule, upperRule}
+use Rattle.ends.specs.Entry.{orbitAt, flagged}
 use Rattle.enclosure.specs.Enclosure.{enclosed}
 use Rattle.proposal.specs.Rotate.{rotated}
 use Rattle.proposal.specs.Propose.{concluded, proposalRule}

@@ -5,7 +5,6 @@ use Rattle.series.specs.Terms.{l, u}
 use Rattle.series.specs.Bounds.{evens, odds, rawLow, rawHigh, greatestLow, leastHigh}
 use Rattle.series.specs.Entry.{sineRule}
 use Rattle.ends.specs.Ends.{lowerEnd, upperEnd}
-use Rattle.ends.specs.Entry.{lowerRule, upperRule}
 use Rattle.enclosure.specs.Halving.{halve, turns}
 use Rattle.enclosure.specs.Enclosure.{lowerAnswer, upperAnswer}
 use Rattle.enclosure.proofs.Laws.{circle}

@@ -3,7 +3,7 @@ use mathlib.Core.Path.{_≡_, sym, ap₂, _∙_}
 use mathlib.Core.List.{List}
 use Prim.Native.Nat.{ℕ}
 use Rattle.claims.specs.declared.Batch.{Batch}
-use Rattle.promises.specs.Unique.{OneResult, Left, BatchAllows, Unique}
+use Rattle.promises.specs.Unique.{OneResult, Unique}
 
 -- a contract that says what the result is
 one : {A : Type 0} (rule : A) → OneResult (λ (r : A). r ≡ rule)

@@ -7,7 +7,7 @@ use Prim.Native.Nat.{ℕ, _+_, _*_, _%_, _/_, _<_}
 use lib.Dec.{T}
 use lib.Ieee.{Float, nan, inf, fin}
 use lib.Ieee.Positive.{den}
-use lib.ListN.{length, getD}
+use lib.ListN.{getD}
 use Rattle.grid.specs.Grid.{one, H-units, T-units, depths, N-units}
 use Rattle.grid.specs.Codes.{Check, m-check, a-check, depth-check, x-check, n-check}
 use Rattle.ends.specs.declared.Orbit.{Orbit}

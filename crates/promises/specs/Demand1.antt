@@ -9,7 +9,7 @@ use Prim.Native.Nat.{ℕ, _*_}
 use lib.Dec.{T, leb}
 use lib.IntN.{pos}
 use lib.ListN.{length}
-use Rattle.grid.specs.Codes.{Check, number, order, m-check, a-check, depth-check, x-check}
+use Rattle.grid.specs.Codes.{Check, order, m-check, a-check, depth-check, x-check}
 use Rattle.series.specs.Entry.{sineRule}
 use Rattle.series.specs.declared.SineBounds.{SineBounds}
 use Rattle.ends.specs.Entry.{orbitChecks, orbitAt, questionChecks, lowerRule, upperRule}

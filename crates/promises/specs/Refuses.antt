@@ -1,6 +1,6 @@
 -- How an entry that begins with checks refuses: the first demand of any such entry.
 use mathlib.Core.Path.{_≡_}
-use mathlib.Core.Bool.{Bool, true, false, cond}
+use mathlib.Core.Bool.{Bool, true, false, _&&_, cond}
 use mathlib.Core.List.{List, [], _∷_}
 use mathlib.Core.Logic.{_⊎_, _↔_}
 use Prim.Native.Nat.{ℕ, _≤_}
@@ -47,4 +47,4 @@ distinct (k ∷ ks) = cond (among (number k) ks) false (distinct ks)
 -- whether a test holds of all
 abbrev pub all : {A : Type 0} → (A → Bool) → List A → Bool
 all test [] = true
-all test (x ∷ xs) = cond (test x) (all test xs) false
+all test (x ∷ xs) = test x && all test xs
