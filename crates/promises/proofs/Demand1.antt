@@ -12,7 +12,7 @@ use Rattle.ends.specs.declared.End.{End}
 use Rattle.ends.specs.Ends.{lowerEnd, upperEnd}
 use Rattle.ends.specs.Entry.{orbitAt, questionChecks, flagged, endRule}
 use Rattle.enclosure.specs.Enclosure.{enclosed}
-use Rattle.proposal.specs.Rotate.{rotated}
+use Rattle.rotations.specs.Rotate.{rotated}
 use Rattle.proposal.specs.Propose.{concluded, proposalRule}
 use Rattle.judge.specs.Verdict.{verdictOf, verdictNumber}
 use Rattle.judge.specs.Judge.{claimChecks, caseAt, caseVerdict, judgeRule}

@@ -21,11 +21,11 @@ use Rattle.ends.proofs.Exact.{lower-true, upper-true, lower-spare, upper-spare}
 use Rattle.enclosure.specs.Enclosure.{enclosureRule}
 use Rattle.enclosure.proofs.Laws.{Encloses, code-zero, encloses}
 use Rattle.enclosure.specs.declared.Enclosure.{Enclosure}
-use Rattle.proposal.specs.declared.State.{State}
-use Rattle.proposal.specs.Rotate.{rotated, brought}
+use Rattle.rotations.specs.declared.State.{State}
+use Rattle.rotations.specs.Rotate.{rotated, brought}
 use Rattle.proposal.specs.Certify.{lowAt, highAt, certifies, certificate}
 use Rattle.proposal.specs.Propose.{concluded, proposalRule}
-use Rattle.proposal.proofs.Ranges.{brought-within}
+use Rattle.rotations.proofs.Ranges.{brought-within}
 use Rattle.proposal.proofs.Certificate.{certificate-only, concluded-smallest, concluded-true}
 use Rattle.judge.proofs.Entry.{confirmed-says, refuted-says}
 use Rattle.claims.specs.Record.{twenty, claimAt}

@@ -9,7 +9,7 @@ use Rattle.series.specs.Entry.{sineRule}
 use Rattle.ends.specs.Ends.{lowerEnd, upperEnd}
 use Rattle.ends.specs.Entry.{orbitAt, flagged, lowerRule, upperRule}
 use Rattle.enclosure.specs.Enclosure.{lowerAnswer, upperAnswer, enclosureRule}
-use Rattle.proposal.specs.Rotate.{rotated}
+use Rattle.rotations.specs.Rotate.{rotated}
 use Rattle.proposal.specs.Propose.{concluded, proposalRule}
 use Rattle.judge.specs.Judge.{caseAt, caseVerdict, judgeRule}
 use Rattle.judge.specs.declared.Claim.{Claim}

@@ -15,9 +15,9 @@ use Rattle.ends.proofs.Limits.{zero-lower, T-upper}
 use Rattle.ends.proofs.Exact.{lower-true, upper-true}
 use Rattle.proposal.specs.Certify.{lowAt, highAt, certifies, certificate, widths, Smallest}
 use Rattle.proposal.specs.Propose.{concluded}
-use Rattle.proposal.specs.Rotate.{brought}
-use Rattle.proposal.specs.declared.State.{State}
-use Rattle.proposal.proofs.Ranges.{brought-within}
+use Rattle.rotations.specs.Rotate.{brought}
+use Rattle.rotations.specs.declared.State.{State}
+use Rattle.rotations.proofs.Ranges.{brought-within}
 use Rattle.proposal.proofs.First.{smallest, only}
 
 both : (p q : Bool) → T p → T q → T (p && q)

@@ -1,6 +1,3 @@
-pub mod Atan
-pub mod Table
-pub mod Rotate
-pub mod Small
 pub mod Certify
 pub mod Propose
+pub mod Ready

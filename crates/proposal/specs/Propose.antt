@@ -4,9 +4,9 @@ use lib.IntN.{pos}
 use Rattle.grid.specs.Codes.{answer}
 use Rattle.ends.specs.Entry.{orbitChecks, orbitAt}
 use Rattle.ends.specs.declared.Orbit.{Orbit}
-use Rattle.proposal.specs.Rotate.{rotated, brought}
+use Rattle.rotations.specs.Rotate.{rotated, brought}
 use Rattle.proposal.specs.Certify.{certificate}
-use Rattle.proposal.specs.declared.State.{State}
+use Rattle.rotations.specs.declared.State.{State}
 use Rattle.proposal.specs.declared.Proposal.{Proposal}
 
 -- "At the end E is brought into 0 to T. Returned: E, y (near e sin E), x (near e cos E)", and the certificate of that E

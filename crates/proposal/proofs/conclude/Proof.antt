@@ -4,10 +4,10 @@ use Prim.Native.Nat.{_≤_}
 use native.Mathlib.Omega.{arith}
 use borrow.Author.Needs.{needs}
 use Rattle.grid.specs.Grid.{T-units}
-use Rattle.proposal.specs.Rotate.{brought}
+use Rattle.rotations.specs.Rotate.{brought}
 use Rattle.proposal.specs.Propose.{concluded}
-use Rattle.proposal.proofs.Ranges.{brought-within}
-use Rattle.proposal.proofs.Size.{read}
+use Rattle.rotations.proofs.Ranges.{brought-within}
+use Rattle.rotations.proofs.Size.{read}
 use Rattle.proposal.proofs.conclude.Statement.{statement}
 use Rattle.proposal.proofs.conclude.Tie as tie
 

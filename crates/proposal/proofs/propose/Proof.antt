@@ -5,10 +5,10 @@ use lib.Dec.{lit≤}
 use Rattle.grid.proofs.Made.{Given, was-made, value-made, was-refused, m-fits, a-fits}
 use Rattle.ends.specs.Entry.{orbitChecks, orbitAt}
 use Rattle.ends.proofs.Enums.{orbits}
-use Rattle.proposal.specs.Rotate.{rotated, fifty}
+use Rattle.rotations.specs.Rotate.{rotated, fifty}
 use Rattle.proposal.specs.Propose.{refused, concluded, proposalRule}
-use Rattle.proposal.specs.Small.{OnGrid}
-use Rattle.proposal.proofs.Limits.{within, room}
+use Rattle.rotations.specs.Small.{OnGrid}
+use Rattle.rotations.proofs.Limits.{within, room}
 use Rattle.proposal.proofs.propose.Statement.{statement}
 use Rattle.proposal.proofs.propose.Tie as tie
 

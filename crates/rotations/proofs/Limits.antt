@@ -8,13 +8,13 @@ use native.Mathlib.Nat.{add-zero, add-suc, add-sub-of-le, mul-le-mul-right, div-
 use lib.Dec.{lit≤}
 use lib.IntN.{ℤ, pos, negsuc, natAbs, _+ℤ_}
 use Rattle.grid.specs.Grid.{one}
-use Rattle.proposal.specs.Table.{table, entry, G}
-use Rattle.proposal.specs.Rotate.{signedBy, shifted, turned, plusAt, shiftOf, rotations, start, fifty, rotated}
-use Rattle.proposal.specs.Small.{Room, roomy}
-use Rattle.proposal.specs.declared.State.{State}
-use Rattle.proposal.proofs.Table.{entry-small}
-use Rattle.proposal.proofs.Floor.{shrunk}
-use Rattle.proposal.proofs.Size.{size-add, size-sign}
+use Rattle.rotations.specs.Table.{table, entry, G}
+use Rattle.rotations.specs.Rotate.{signedBy, shifted, turned, plusAt, shiftOf, rotations, start, fifty, rotated}
+use Rattle.rotations.specs.Small.{Room, roomy}
+use Rattle.rotations.specs.declared.State.{State}
+use Rattle.rotations.proofs.Table.{entry-small}
+use Rattle.rotations.proofs.Floor.{shrunk}
+use Rattle.rotations.proofs.Size.{size-add, size-sign}
 
 -- a rotation with shift k adds at most the other number's 2^-k-th part, and 1 for rounding down
 unfoldable pub limit : ℕ → ℕ

@@ -9,7 +9,7 @@ use lib.Dec.{T}
 use lib.IntN.{ℤ, pos, negsuc, natAbs}
 use lib.Signed.{ltZ, nonNeg}
 use Rattle.grid.specs.Grid.{T-units}
-use Rattle.proposal.specs.Rotate.{brought}
+use Rattle.rotations.specs.Rotate.{brought}
 
 pub below-zero : (z : ℤ) → ltZ z (pos 0) ≡ true → 0 ≡ brought z
 below-zero (pos n) e = absurd (let h = ltb-true n 0 e in let k : ⊥ = omega arith in k)

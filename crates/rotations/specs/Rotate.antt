@@ -6,8 +6,8 @@ use lib.Signed.{ltZ, shrZ}
 use Rattle.grid.specs.Grid.{one, T-units}
 use Rattle.whole.specs.Round.{down}
 use Rattle.ends.specs.declared.Orbit.{Orbit}
-use Rattle.proposal.specs.Table.{entry, G}
-use Rattle.proposal.specs.declared.State.{State}
+use Rattle.rotations.specs.Table.{entry, G}
+use Rattle.rotations.specs.declared.State.{State}
 
 -- sign · z, where the sign is + or -
 abbrev pub signedBy : Bool → ℤ → ℤ

@@ -9,8 +9,8 @@ use lib.IntN.{pos, _*ℤ_}
 use lib.Signed.{leZ, ltZ, leZ-yes, ltZ-yes}
 use Rattle.grid.specs.Grid.{one}
 use Rattle.whole.proofs.Table.{both-parts, at}
-use Rattle.proposal.specs.Atan.{term, atan, atanSum}
-use Rattle.proposal.specs.Table.{entries, table, entry, lastBelow, lastAbove, RoundedDown, G, product, Scaled}
+use Rattle.rotations.specs.Atan.{term, atan, atanSum}
+use Rattle.rotations.specs.Table.{entries, table, entry, lastBelow, lastAbove, RoundedDown, G, product, Scaled}
 
 -- ---- the rule's fractions are fractions: no denominator is 0
 

@@ -1,10 +1,10 @@
--- `proposal::bring` meets its contract: the tests that led to each return are the definition's. Assumes nothing.
+-- `rotations::bring` meets its contract: the tests that led to each return are the definition's. Assumes nothing.
 use lib.Dec.{T}
 use lib.Signed.{nonNeg}
 use mir.Facts.{toZ-ofZ, fits-natAbs}
-use Rattle.proposal.proofs.Ranges.{below-zero, not-below, up-to-T, past-T}
-use Rattle.proposal.proofs.bring.Statement.{statement}
-use Rattle.proposal.proofs.bring.Tie as tie
+use Rattle.rotations.proofs.Ranges.{below-zero, not-below, up-to-T, past-T}
+use Rattle.rotations.proofs.bring.Statement.{statement}
+use Rattle.rotations.proofs.bring.Tie as tie
 
 returns : tie.Need-returns
 returns c = below-zero (c .before .args .e) (rw (toZ-ofZ (c .before .fits .e)) at (c .if1 .taken))

@@ -1,12 +1,12 @@
--- `proposal::sign` meets its contract. Assumes nothing.
+-- `rotations::sign` meets its contract. Assumes nothing.
 use native.Mathlib.Omega.{arith}
 use borrow.Author.Needs.{needs}
 use mir.Syntax.{w64}
 use mir.Facts.{toZ-ofZ, toZ-pos}
-use Rattle.proposal.specs.Rotate.{plusAt}
-use Rattle.proposal.proofs.Size.{small-neg, sum-fits, read}
-use Rattle.proposal.proofs.sign.Statement.{statement}
-use Rattle.proposal.proofs.sign.Tie as tie
+use Rattle.rotations.specs.Rotate.{plusAt}
+use Rattle.rotations.proofs.Size.{small-neg, sum-fits, read}
+use Rattle.rotations.proofs.sign.Statement.{statement}
+use Rattle.rotations.proofs.sign.Tie as tie
 
 sub-result : tie.Need-sub-result
 sub-result c =

@@ -1,14 +1,14 @@
--- `proposal::rotate` meets its contract: after i turns of the loop the state is that of i rotations. Assumes nothing.
+-- `rotations::rotate` meets its contract: after i turns of the loop the state is that of i rotations. Assumes nothing.
 use mathlib.Core.Path.{_≡_}
 use Prim.Native.Nat.{_≤_, _-_}
 use native.Mathlib.Omega.{arith}
 use native.Mathlib.Numerals.{add-one}
 use borrow.Author.Needs.{needs}
-use Rattle.proposal.specs.Rotate.{rotations, rotated, start, fifty}
-use Rattle.proposal.specs.Small.{Room}
-use Rattle.proposal.proofs.Limits.{within, room}
-use Rattle.proposal.proofs.rotate.Statement.{statement}
-use Rattle.proposal.proofs.rotate.Tie as tie
+use Rattle.rotations.specs.Rotate.{rotations, rotated, start, fifty}
+use Rattle.rotations.specs.Small.{Room}
+use Rattle.rotations.proofs.Limits.{within, room}
+use Rattle.rotations.proofs.rotate.Statement.{statement}
+use Rattle.rotations.proofs.rotate.Tie as tie
 
 abbrev Inv-loop : tie.InvT-loop
 Inv-loop m s₀ i₀ s i = (i ≤ fifty) × (s ≡ rotations m i s₀)

@@ -1,11 +1,11 @@
--- `proposal::entry` meets its contract: the code's table is the definition's. Assumes nothing.
+-- `rotations::entry` meets its contract: the code's table is the definition's. Assumes nothing.
 use borrow.Author.Needs.{needs}
 use mir.Syntax.{w64}
 use mir.Facts.{toZ-pos}
-use Rattle.proposal.specs.Table.{table, entry}
-use Rattle.proposal.proofs.Size.{small-entry, small-fits}
-use Rattle.proposal.proofs.entry.Statement.{statement}
-use Rattle.proposal.proofs.entry.Tie as tie
+use Rattle.rotations.specs.Table.{table, entry}
+use Rattle.rotations.proofs.Size.{small-entry, small-fits}
+use Rattle.rotations.proofs.entry.Statement.{statement}
+use Rattle.rotations.proofs.entry.Tie as tie
 
 mul-result : tie.Need-mul-result
 mul-result c = search needs

@@ -10,11 +10,11 @@ use mir.Syntax.{w64}
 use mir.Val.{SFits, toZ, ofZ}
 use mir.Facts.{toZ-ofZ}
 use Rattle.whole.proofs.Parts.{Is, own, is-add}
-use Rattle.proposal.specs.Rotate.{signedBy, shifted}
-use Rattle.proposal.specs.Small.{Small, roomy}
-use Rattle.proposal.specs.Table.{entries, entry}
-use Rattle.proposal.proofs.Floor.{parts-size, shrunk}
-use Rattle.proposal.proofs.Table.{entry-small}
+use Rattle.rotations.specs.Rotate.{signedBy, shifted}
+use Rattle.rotations.specs.Small.{Small, roomy}
+use Rattle.rotations.specs.Table.{entries, entry}
+use Rattle.rotations.proofs.Floor.{parts-size, shrunk}
+use Rattle.rotations.proofs.Table.{entry-small}
 
 size-parts : {a b : ℕ} (z : ℤ) → Is z a b → natAbs z ≤ a + b
 size-parts (pos n) i = let e = i .eq in omega arith

@@ -1,13 +1,13 @@
--- `proposal::start` meets its contract. Assumes nothing.
+-- `rotations::start` meets its contract. Assumes nothing.
 use Prim.Native.Nat.{_*_, _/_}
 use native.Mathlib.Omega.{arith}
 use mir.Syntax.{w64}
 use mir.Facts.{toZ-pos}
 use borrow.Author.Needs.{needs}
-use Rattle.proposal.specs.Rotate.{start}
-use Rattle.proposal.specs.Table.{G}
-use Rattle.proposal.proofs.start.Statement.{statement}
-use Rattle.proposal.proofs.start.Tie as tie
+use Rattle.rotations.specs.Rotate.{start}
+use Rattle.rotations.specs.Table.{G}
+use Rattle.rotations.proofs.start.Statement.{statement}
+use Rattle.rotations.proofs.start.Tie as tie
 
 mul-t2 : tie.Need-mul-t2
 mul-t2 c = search needs

@@ -5,7 +5,7 @@ use lib.IntN.{pos, _*ℤ_}
 use lib.Signed.{_≤ℤ_, _<ℤ_}
 use lib.ListN.{getD}
 use Rattle.grid.specs.Grid.{one}
-use Rattle.proposal.specs.Atan.{atan}
+use Rattle.rotations.specs.Atan.{atan}
 
 -- "0 to 24"
 abbrev pub entries : ℕ

@@ -8,7 +8,7 @@ use lib.Pow.{pow-pos}
 use lib.Signed.{_≤ℤ_}
 use Rattle.whole.proofs.Parts.{plus, minus, own, is-pos, is-add, is-mul}
 use Rattle.whole.proofs.Order.{le-parts}
-use Rattle.proposal.specs.Rotate.{shifted}
+use Rattle.rotations.specs.Rotate.{shifted}
 
 pub parts-size : (z : ℤ) → natAbs z ≡ plus z + minus z
 parts-size (pos n) = omega arith

@@ -1,10 +1,10 @@
--- `proposal::signed` meets its contract: 0 - z is negated z. Assumes nothing.
+-- `rotations::signed` meets its contract: 0 - z is negated z. Assumes nothing.
 use mathlib.Core.Path.{_∙_}
 use lib.IntN.{+ℤ-idl}
 use mir.Facts.{toZ-ofZ}
-use Rattle.proposal.proofs.Size.{nothing, small-neg, sum-fits, read}
-use Rattle.proposal.proofs.signed.Statement.{statement}
-use Rattle.proposal.proofs.signed.Tie as tie
+use Rattle.rotations.proofs.Size.{nothing, small-neg, sum-fits, read}
+use Rattle.rotations.proofs.signed.Statement.{statement}
+use Rattle.rotations.proofs.signed.Tie as tie
 
 sub-result : tie.Need-sub-result
 sub-result c = rw (read (c .before .pre)) (sum-fits nothing (small-neg (c .before .pre)))

@@ -1,4 +1,4 @@
--- `proposal::turn` meets its contract: what is added or taken away is small and read as it was written, so each sum is the
+-- `rotations::turn` meets its contract: what is added or taken away is small and read as it was written, so each sum is the
 -- definition's. Assumes nothing.
 use mathlib.Core.Path.{_≡_}
 use mathlib.Core.Bool.{Bool}
@@ -7,12 +7,12 @@ use lib.IntN.{ℤ, pos}
 use mir.Syntax.{w64}
 use mir.Val.{toZ, ofZ}
 use borrow.Author.Needs.{needs}
-use Rattle.proposal.specs.Rotate.{signedBy, shifted, turned}
-use Rattle.proposal.specs.Small.{Small}
-use Rattle.proposal.specs.Table.{entry}
-use Rattle.proposal.proofs.Size.{small-sign, small-shift, small-entry, read, held-sum-fits, held-sum, held-less-fits, held-less}
-use Rattle.proposal.proofs.turn.Statement.{statement}
-use Rattle.proposal.proofs.turn.Tie as tie
+use Rattle.rotations.specs.Rotate.{signedBy, shifted, turned}
+use Rattle.rotations.specs.Small.{Small}
+use Rattle.rotations.specs.Table.{entry}
+use Rattle.rotations.proofs.Size.{small-sign, small-shift, small-entry, read, held-sum-fits, held-sum, held-less-fits, held-less}
+use Rattle.rotations.proofs.turn.Statement.{statement}
+use Rattle.rotations.proofs.turn.Tie as tie
 
 -- a callee's result r is the small number z
 record Moved (r z : ℤ) : Type 0 where

@@ -2,11 +2,10 @@
 -- from the start on is a law of their definition, among the proofs.
 use Prim.Native.Nat.{ℕ, _≤_, _<_}
 use lib.IntN.{ℤ, natAbs}
-use Rattle.grid.specs.Grid.{one, H-units, T-units}
+use Rattle.grid.specs.Grid.{one, H-units}
 use Rattle.ends.specs.declared.Orbit.{Orbit}
-use Rattle.proposal.specs.Table.{entries}
-use Rattle.proposal.specs.Certify.{widths}
-use Rattle.proposal.specs.declared.State.{State}
+use Rattle.rotations.specs.Table.{entries}
+use Rattle.rotations.specs.declared.State.{State}
 
 -- 2^40
 abbrev pub roomy : ℕ
@@ -36,13 +35,3 @@ pub record Signable (s : State) (m : ℕ) : Type 0 where
 pub record OnGrid (o : Orbit) : Type 0 where
   pub mean : o .m ≤ H-units
   pub shape : o .a ≤ one
-
--- what the certificate's test of a width asks
-pub record Triable (o : Orbit) (E j : ℕ) : Type 0 where
-  pub orbit : OnGrid o
-  pub angle : E ≤ T-units
-  pub width : j < widths
-
-pub record Concludable (o : Orbit) (s : State) : Type 0 where
-  pub orbit : OnGrid o
-  pub room : Room s

@@ -1,9 +1,9 @@
--- `proposal::part` meets its contract: the shift of an i64 rounds down. Assumes nothing.
+-- `rotations::part` meets its contract: the shift of an i64 rounds down. Assumes nothing.
 use borrow.Author.Needs.{needs}
-use Rattle.proposal.specs.Rotate.{shifted}
-use Rattle.proposal.proofs.Size.{small-sign, small-shift, read}
-use Rattle.proposal.proofs.part.Statement.{statement}
-use Rattle.proposal.proofs.part.Tie as tie
+use Rattle.rotations.specs.Rotate.{shifted}
+use Rattle.rotations.proofs.Size.{small-sign, small-shift, read}
+use Rattle.rotations.proofs.part.Statement.{statement}
+use Rattle.rotations.proofs.part.Tie as tie
 
 cast-signed : tie.Need-cast-signed
 cast-signed c = search needs

@@ -1,0 +1,143 @@
+// The shift-and-add rotations toward a root of Kepler's equation: the arctangent table, G and the fifty steps.
+ghost use mathlib.Core.Path.{_≡_};
+ghost use Prim.Native.Nat.{_<_, _≤_};
+ghost use lib.IntN.{pos};
+ghost use Rattle.grid.specs.Grid.{one};
+ghost use Rattle.rotations.specs.Table.{entries, entry};
+ghost use Rattle.rotations.specs.Rotate.{signedBy, shifted, shiftOf, turned, plusAt, start, rotated, brought};
+ghost use Rattle.rotations.specs.Small.{Small, Shiftable, Turnable, Signable, OnGrid};
+use ends::Orbit;
+use grid::Angle;
+
+// E, and e times the cosine and the sine of it, in units.
+pub struct State {
+    pub e: i64,
+    pub x: i64,
+    pub y: i64,
+}
+
+// Entry k is 2^28 atan(2^-k) rounded down.
+const TABLE: [u64; 25] = [
+    210_828_714,
+    124_459_457,
+    65_760_959,
+    33_381_289,
+    16_755_421,
+    8_385_878,
+    4_193_962,
+    2_097_109,
+    1_048_570,
+    524_287,
+    262_143,
+    131_071,
+    65_535,
+    32_767,
+    16_383,
+    8_191,
+    4_095,
+    2_047,
+    1_023,
+    511,
+    255,
+    127,
+    63,
+    31,
+    15,
+];
+
+const ONE: u64 = grid::Eccentricity::ONE as u64;
+
+const T: u64 = Angle::T as u64;
+
+// 2^28 times the product of 4^k / (4^k + 1), k = 0 to 24, rounded down.
+const G: u64 = 98_987_219;
+
+// Two with each shift.
+const ROTATIONS: u32 = 50;
+
+fn entry(k: u32) -> i64
+    requires { ⌜ k < entries ⌝ }
+    ensures { λ r. ⌜ r ≡ pos (entry k) ⌝ }
+{
+    TABLE[k as usize] as i64
+}
+
+fn shift_of(i: u32) -> u32
+    ensures { λ r. ⌜ r ≡ shiftOf i ⌝ }
+{
+    i / 2
+}
+
+fn signed(z: i64, plus: bool) -> i64
+    requires { ⌜ Small z ⌝ }
+    ensures { λ r. ⌜ r ≡ signedBy plus z ⌝ }
+{
+    if plus { z } else { 0 - z }
+}
+
+// What x loses of y, and y gains of x: the number divided by 2^k rounding down, and then signed.
+fn part(z: i64, k: u32, plus: bool) -> i64
+    requires { ⌜ Shiftable z k ⌝ }
+    ensures { λ r. ⌜ r ≡ signedBy plus (shifted k z) ⌝ }
+{
+    signed(z >> k, plus)
+}
+
+// One rotation by the angle of entry k, with its sign given.
+fn turn(s: State, k: u32, plus: bool) -> State
+    requires { ⌜ Turnable s k ⌝ }
+    ensures { λ r. ⌜ r ≡ turned s k plus ⌝ }
+{
+    let e = s.e + signed(entry(k), plus);
+    let old = s.x;
+    let x = old - part(s.y, k, plus);
+    let y = s.y + part(old, k, plus);
+    State { e, x, y }
+}
+
+// The rule that picks the sign: plus if E - y < M.
+fn sign(s: State, m: u64) -> bool
+    requires { ⌜ Signable s m ⌝ }
+    ensures { λ r. ⌜ r ≡ plusAt m s ⌝ }
+{
+    s.e - s.y < m as i64
+}
+
+// E = 0, x = A G / 2^28 rounded down, y = 0.
+fn start(a: u64) -> State
+    requires { ⌜ a ≤ one ⌝ }
+    ensures { λ r. ⌜ r ≡ start a ⌝ }
+{
+    State {
+        e: 0,
+        x: (a * G / ONE) as i64,
+        y: 0,
+    }
+}
+
+// All rotations of an orbit.
+pub fn rotate(o: Orbit) -> State
+    requires { ⌜ OnGrid o ⌝ }
+    ensures { λ r. ⌜ r ≡ rotated o ⌝ }
+{
+    let m = o.m;
+    let mut s = start(o.a);
+    let mut i = 0;
+    while i < ROTATIONS {
+        let plus = sign(s, m);
+        s = turn(s, shift_of(i), plus);
+        i += 1;
+    }
+    s
+}
+
+// E brought into 0 to T.
+pub fn bring(e: i64) -> u64
+    ensures { λ r. ⌜ r ≡ brought e ⌝ }
+{
+    if e < 0 {
+        return 0;
+    }
+    let n = e as u64;
+    if n <= T { n } else { T }
+}
