@@ -1,5 +1,7 @@
 // The grid on which the user's numbers stand, and the codes of what stands outside it.
 ghost use mathlib.Core.Path.{_≡_};
+ghost use Prim.Native.Nat.{_+_, _-_, _≤_, min};
+ghost use Rattle.grid.specs.Grid.{T-units};
 ghost use Rattle.grid.specs.Make.{angleOf, eccentricityOf, depthOf};
 
 pub mod codes;
@@ -87,4 +89,22 @@ impl Depth {
             DepthOr::Refused(codes::DEPTH_NOT_1_TO_5)
         }
     }
+}
+
+const T: u64 = Angle::T as u64;
+
+// x - n, or 0 where that is below 0.
+pub fn lowered(x: u64, n: u64) -> u64
+    ensures { λ r. ⌜ r ≡ x - n ⌝ }
+{
+    if x < n { 0 } else { x - n }
+}
+
+// x + n, or T where that is above T.
+pub fn raised(x: u64, n: u64) -> u64
+    requires { ⌜ (x ≤ T-units) × (n ≤ 1099511627776) ⌝ }
+    ensures { λ r. ⌜ r ≡ min (x + n) T-units ⌝ }
+{
+    let sum = x + n;
+    if sum < T { sum } else { T }
 }

@@ -1,7 +1,5 @@
 // The judge of a claim: does Kepler's equation have its root within N units of an estimate?
 ghost use mathlib.Core.Path.{_≡_};
-ghost use Prim.Native.Nat.{_+_, _-_, _≤_, min};
-ghost use Rattle.grid.specs.Grid.{T-units, N-units};
 ghost use Rattle.judge.specs.Verdict.{confirmed, lowerAbove, upperBelow, verdictOf, verdictNumber};
 ghost use Rattle.judge.specs.Judge.{caseOf, judgeRule};
 ghost use Rattle.judge.specs.Fair.{Tested};
@@ -51,28 +49,13 @@ pub fn number_of(v: Verdict) -> u32
     }
 }
 
-// c - N, or 0 where that is below 0.
-fn lowered(c: u64, n: u64) -> u64
-    ensures { λ r. ⌜ r ≡ c - n ⌝ }
-{
-    if c < n { 0 } else { c - n }
-}
-
-// f + N, or T where that is above T.
-fn raised(f: u64, n: u64) -> u64
-    requires { ⌜ (f ≤ T-units) × (n ≤ N-units) ⌝ }
-    ensures { λ r. ⌜ r ≡ min (f + n) T-units ⌝ }
-{
-    if f + n < T { f + n } else { T }
-}
-
 // Is p an accepted lower end, and q an accepted upper end?
 fn is_confirmed(o: Orbit, u: Units, n: u64, d: Depth) -> bool
     requires { ⌜ Tested o u n d ⌝ }
     ensures { λ r. ⌜ r ≡ confirmed o (d .pairs) u n ⌝ }
 {
-    let p = lowered(u.c, n);
-    let q = raised(u.f, n);
+    let p = grid::lowered(u.c, n);
+    let q = grid::raised(u.f, n);
     if ends::lower(o, Angle { units: p }, d) {
         ends::upper(o, Angle { units: q }, d)
     } else {

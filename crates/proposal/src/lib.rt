@@ -1,10 +1,8 @@
 // The proposal: where the rotations end, and the certificate that says how near the root is.
 ghost use mathlib.Core.Path.{_≡_};
-ghost use Prim.Native.Nat.{_+_, _-_, _^_, _<_, _≤_, min};
-ghost use Rattle.grid.specs.Grid.{T-units};
+ghost use Prim.Native.Nat.{_^_, _<_};
 ghost use Rattle.proposal.specs.Certify.{widths, certifies, certificate};
 ghost use Rattle.proposal.specs.Propose.{concluded, proposalRule};
-ghost use Rattle.rotations.specs.Small.{roomy};
 ghost use Rattle.proposal.specs.Ready.{Triable, Concludable};
 use ends::Orbit;
 use ends::OrbitOr;
@@ -23,29 +21,11 @@ pub struct Proposal {
     pub j: u32,
 }
 
-const T: u64 = Angle::T as u64;
-
 fn width_of(j: u32) -> u64
     requires { ⌜ j < widths ⌝ }
     ensures { λ r. ⌜ r ≡ 2 ^ j ⌝ }
 {
     1u64 << j
-}
-
-// The end tried below E: E - w, and 0 where that is below 0.
-fn low_at(e: u64, w: u64) -> u64
-    ensures { λ r. ⌜ r ≡ e - w ⌝ }
-{
-    if w <= e { e - w } else { 0 }
-}
-
-// The end tried above E: E + w, and T where that is above T.
-fn high_at(e: u64, w: u64) -> u64
-    requires { ⌜ (e ≤ T-units) × (w ≤ roomy) ⌝ }
-    ensures { λ r. ⌜ r ≡ min (e + w) T-units ⌝ }
-{
-    let sum = e + w;
-    if sum <= T { sum } else { T }
 }
 
 fn holds(o: Orbit, e: u64, j: u32) -> bool
@@ -54,10 +34,10 @@ fn holds(o: Orbit, e: u64, j: u32) -> bool
 {
     let w = width_of(j);
     let low = Angle {
-        units: low_at(e, w),
+        units: grid::lowered(e, w),
     };
     let high = Angle {
-        units: high_at(e, w),
+        units: grid::raised(e, w),
     };
     let d = Depth {
         pairs: Depth::GREATEST,

@@ -15,11 +15,11 @@ use Rattle.proposal.proofs.holds.Tie as tie
 width-of-requires : tie.Need-width-of-requires
 width-of-requires c κs = search needs
 
-low-at-requires : tie.Need-low-at-requires
-low-at-requires c κs = search needs
+lowered-requires : tie.Need-lowered-requires
+lowered-requires c κs = search needs
 
-high-at-requires : tie.Need-high-at-requires
-high-at-requires c κs =
+raised-requires : tie.Need-raised-requires
+raised-requires c κs =
     let h : 2 ^ c .before .before .args .j ≤ 2 ^ 30 = pow-mono {j = 30} (omega arith) in omega arith
 
 lower-requires : tie.Need-lower-requires
@@ -48,8 +48,8 @@ holds-spec =
     tie.close
     (tie.spec
     width-of-requires
-    low-at-requires
-    high-at-requires
+    lowered-requires
+    raised-requires
     lower-requires
     upper-requires
     returns
