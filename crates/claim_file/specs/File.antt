@@ -1,9 +1,9 @@
 -- What the program writes for an input: the section "Claim records", its last sentence.
 use Prim.Native.Nat.{ℕ}
 use mathlib.Core.Bool.{cond}
-use mathlib.Core.List.{List, []}
+use mathlib.Core.List.{List, [], _++_}
 use lib.Dec.{ltb}
-use lib.ListN.{length}
+use lib.ListN.{length, drop}
 use Rattle.claims.specs.Record.{twenty, answerAt}
 use Rattle.claims.specs.Batch.{batchRule, upTo}
 
@@ -19,3 +19,7 @@ unfoldable pub output : List ℕ → List ℕ
 output input =
     cond (ltb most-bytes (length input)) []
     (upTo (answerAt twenty input) (batchRule twenty (length input) most-claims .count))
+
+-- the answers buffer afterwards: at its start what is written for an input, and beyond that what was there
+abbrev pub outputIn : List ℕ → List ℕ → List ℕ
+outputIn input before = output input ++ drop (length (output input)) before

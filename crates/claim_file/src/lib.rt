@@ -1,8 +1,8 @@
 // The program that judges a file of claims: standard input to standard output.
 ghost use mathlib.Core.Path.{_≡_};
-ghost use lib.ListN.{take};
+ghost use lib.ListN.{length};
 ghost use Rattle.io.specs.Counts.{Counts};
-ghost use Rattle.claim_file.specs.File.{output};
+ghost use Rattle.claim_file.specs.File.{output, outputIn};
 use libc::STDIN_FILENO;
 use libc::STDOUT_FILENO;
 
@@ -11,8 +11,9 @@ const MOST_BYTES: usize = 65_520;
 
 // Puts what is written for an input at the start of `answers`, and returns how many bytes that is.
 pub fn answer_file(input: &[u8], answers: &mut [u8; 3_276]) -> usize
+    ensures { λ r. ⌜ r ≡ length (output (now (input .entry))) ⌝ }
+    ensures { λ r. ⌜ now (answers .exit) ≡ outputIn (now (input .entry)) (now (answers .entry)) ⌝ }
     ensures { λ r. ⌜ Counts r (now (answers .exit)) ⌝ }
-    ensures { λ r. ⌜ take r (now (answers .exit)) ≡ output (now (input .entry)) ⌝ }
 {
     if input.len() > MOST_BYTES {
         return 0;

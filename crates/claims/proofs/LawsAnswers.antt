@@ -8,8 +8,8 @@ use native.Mathlib.Nat.{eq-or-lt-of-le, le-of-suc-le-suc, div-add-mod'}
 use native.Mathlib.Omega.{arith}
 use borrow.Author.Tests.{ltb-true, ltb-false}
 use lib.Dec.{ltb}
-use lib.ListN.{length, take, drop, getD, List·getD-append}
-use lib.Seq.{take-at, getD-at, getD-append-add, getD-drop, ext-getD}
+use lib.ListN.{length, drop, getD, List·getD-append}
+use lib.Seq.{getD-at, getD-append-add, getD-drop, ext-getD}
 use Rattle.claims.specs.Record.{Form, answerAt}
 use Rattle.claims.specs.Batch.{batchRule, upTo, written, answersAfter}
 use Rattle.claims.specs.declared.Batch.{Batch}
@@ -94,9 +94,3 @@ module _ (form : Form) (claims before : List ℕ) where
   refused-kept h =
       ap (λ (n : ℕ). written form claims n before) (refused-count form (length claims) (length before) h)
       ∙ sym (written-none form claims before)
-
-  -- the answers stand at the buffer's start
-  pub answers-first : take (batchRule form (length claims) (length before) .count) (answersAfter form claims before)
-      ≡ upTo (answerAt form claims) (batchRule form (length claims) (length before) .count)
-  unfolding answersAfter
-  answers-first = take-at _ _ counted (length-upTo (answerAt form claims) counted)

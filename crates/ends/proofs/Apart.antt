@@ -1,6 +1,6 @@
 -- No lower end lies above an upper end, for e up to 1: x - S_9(x) rises with x, and S_9 is below S_10. Assumes nothing.
 use mathlib.Core.Path.{_≡_, ap}
-use Prim.Native.Nat.{ℕ, suc, _+_, _-_, _*_, _≤_, _<_}
+use Prim.Native.Nat.{ℕ, _+_, _-_, _*_, _≤_, _<_}
 use native.Mathlib.Omega.{arith}
 use native.Mathlib.Nat.{mul-le-mul-left}
 use lib.Dec.{T, ltb, not-T, ltb→lt, nltb→le}

@@ -1,6 +1,6 @@
 -- The tests as the code makes them, on the raised bounds of a walk, are the page's tests; and the other bound on the wrong
 -- side rules out every depth. Assumes nothing.
-use mathlib.Core.Path.{_≡_, refl, sym, ap, ap₂, _∙_, subst}
+use mathlib.Core.Path.{_≡_, refl, sym, ap, _∙_, subst}
 use mathlib.Core.Bool.{Bool, true, false}
 use Prim.Native.Nat.{ℕ, suc, pred, _+_, _*_, _≤_, _<_}
 use native.Mathlib.Omega.{arith}

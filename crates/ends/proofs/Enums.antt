@@ -1,6 +1,4 @@
 -- An orbit's and a question's enum answer a value or a code. Assumes nothing.
-use mathlib.Core.Path.{_≡_}
-use Prim.Native.Nat.{ℕ}
 use Rattle.grid.proofs.Made.{Answers, clash}
 use Rattle.ends.specs.declared.Orbit.{Orbit}
 use Rattle.ends.specs.declared.OrbitOr.{OrbitOr}

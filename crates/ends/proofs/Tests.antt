@@ -1,13 +1,13 @@
 -- The end tests and the exact inequalities by naturals: the signed numbers go here, once. Assumes nothing.
 use mathlib.Core.Logic.{_↔_}
-use Prim.Native.Nat.{ℕ, _+_, _*_, _≤_}
+use Prim.Native.Nat.{ℕ, _+_, _*_}
 use native.Mathlib.Omega.{arith}
 use lib.Dec.{T}
-use lib.IntN.{ℤ, pos, _-ℤ_, _*ℤ_}
+use lib.IntN.{pos, _-ℤ_, _*ℤ_}
 use Rattle.whole.proofs.Parts.{Is, plus, minus, own, is-pos, is-add, is-minus, is-mul}
 use Rattle.whole.proofs.Order.{le-parts, test-parts}
 use Rattle.grid.specs.Grid.{one}
-use Rattle.series.specs.Sine.{sine, Lo, Hi, S9, S10, den9, den10}
+use Rattle.series.specs.Sine.{sine, Lo, Hi, den9, den10}
 use Rattle.series.proofs.Sums.{same, other}
 use Rattle.series.proofs.Next.{S9-parts, S10-parts}
 use Rattle.ends.specs.declared.Orbit.{Orbit}

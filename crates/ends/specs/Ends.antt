@@ -1,7 +1,7 @@
 -- The section "The two end tests".
 use Prim.Native.Nat.{ℕ}
 use mathlib.Core.Bool.{Bool}
-use lib.IntN.{ℤ, pos, _-ℤ_, _*ℤ_}
+use lib.IntN.{pos, _-ℤ_, _*ℤ_}
 use lib.Signed.{leZ}
 use Rattle.grid.specs.Grid.{one}
 use Rattle.series.specs.Sine.{Lo, Hi}

@@ -1,6 +1,4 @@
 -- The grid's three enums answer a value or a code. Assumes nothing.
-use mathlib.Core.Path.{_≡_}
-use Prim.Native.Nat.{ℕ}
 use Rattle.grid.specs.declared.Angle.{Angle}
 use Rattle.grid.specs.declared.AngleOr.{AngleOr}
 use Rattle.grid.specs.declared.AngleOr.the-variants as angle

@@ -1,12 +1,11 @@
 -- No lower bound lies above an upper bound, whatever the two depths: S_9 and S_10 lie between. Assumes nothing.
-use Prim.Native.Nat.{ℕ, _+_, _*_, _≤_}
+use Prim.Native.Nat.{ℕ, _≤_}
 use native.Mathlib.Omega.{arith}
 use native.Mathlib.Nat.{le-of-mul-le-mul-right}
 use lib.Signed.{_≤ℤ_}
 use Rattle.grid.specs.Grid.{T-units, depths}
 use Rattle.whole.proofs.Parts.{plus, minus, own, is-mul-right}
 use Rattle.whole.proofs.Order.{le-parts}
-use Rattle.series.specs.Exact.{den}
 use Rattle.series.specs.Sine.{sine, Lo, Hi, den9, den10}
 use Rattle.series.proofs.Range.{sine-divides}
 use Rattle.series.proofs.Truth.{den-pos}

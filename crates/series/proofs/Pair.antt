@@ -1,14 +1,14 @@
 -- One pair of terms added to a walk: what its four terms are, and the walk that results. Assumes nothing.
-use mathlib.Core.Path.{_≡_, refl, sym, ap, _∙_}
-use Prim.Native.Nat.{ℕ, zero, suc, _+_, _-_, _*_, _≤_, _<_, max, min}
+use mathlib.Core.Path.{_≡_, ap, _∙_}
+use Prim.Native.Nat.{ℕ, suc, _+_, _-_, _*_, _≤_, max, min}
 use native.Mathlib.Omega.{arith}
 use native.Mathlib.Numerals.{add-one}
-use Rattle.grid.specs.Grid.{one, T-units, depths}
+use Rattle.grid.specs.Grid.{one}
 use Rattle.whole.specs.Round.{down, up}
 use Rattle.series.specs.Terms.{l, u, Q-, Q+}
 use Rattle.series.specs.Bounds.{evens, odds}
 use Rattle.series.specs.Sine.{sine}
-use Rattle.series.specs.Walk.{raise, Small, Walking, walk, bestLow, bestHigh}
+use Rattle.series.specs.Walk.{raise, Small, Walking, walk}
 use Rattle.series.specs.declared.Walk.{Walk}
 use Rattle.series.proofs.Walking.{divisor-odd, divisor-even, low-small, high-small, odds-u-small, odds-l-small, evens-l-small, evens-u-small, better-low, better-high}
 

@@ -1,15 +1,14 @@
 -- Raised numbers: order and choice of signed numbers within 2^34 are those of the naturals that they are raised to.
 -- Assumes nothing.
 use mathlib.Core.Path.{_≡_, sym, ap, subst, _∙_}
-use mathlib.Core.Bool.{not}
 use Prim.Native.Nat.{ℕ, suc, _+_, _-_, _*_, _≤_, max, min}
 use native.Mathlib.Omega.{arith}
-use lib.Dec.{T, ltb}
+use lib.Dec.{ltb}
 use mir.Syntax.{w64}
 use mir.Val.{SFits, toZ, ofZ}
 use mir.Facts.{toZ-ofZ}
 use lib.IntN.{ℤ, pos, negsuc, subℕ}
-use lib.Signed.{leZ, leZ-yes, _≤ℤ_}
+use lib.Signed.{_≤ℤ_}
 use Rattle.whole.specs.Choose.{greater, lesser}
 use Rattle.whole.proofs.Parts.{plus, minus, Is, own, is-sub, by-test}
 use Rattle.whole.proofs.Order.{le-parts, one-number, of-greater, of-lesser, le-greater-left, le-greater-right, lesser-le-left, lesser-le-right}

@@ -1,6 +1,6 @@
 -- How large the terms and their sums can be: the terms grow with X, so the greatest angle gives a limit for every angle.
 -- Assumes nothing.
-use Prim.Native.Nat.{ℕ, zero, suc, _+_, _*_, _≤_, _<_}
+use Prim.Native.Nat.{ℕ, zero, suc, _*_, _≤_, _<_}
 use native.Mathlib.Omega.{arith}
 use native.Mathlib.Nat.{le-trans, mul-le-mul, mul-le-mul-left, mul-pos}
 use lib.Dec.{T, leb, lit≤, lit<}

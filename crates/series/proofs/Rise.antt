@@ -7,7 +7,7 @@ use native.Mathlib.Nat.{mul-le-mul, mul-le-mul-left, mul-le-mul-right, mul-lt-mu
 use Rattle.grid.specs.Grid.{T-units}
 use Rattle.series.specs.Terms.{Series}
 use Rattle.series.specs.Exact.{num, ratio, den}
-use Rattle.series.specs.Sine.{sine, den9}
+use Rattle.series.specs.Sine.{sine}
 use Rattle.series.proofs.Sums.{same, other}
 
 -- the differences, named, make both sides sums of products

@@ -3,11 +3,10 @@
 use mathlib.Core.Bool.{Bool, true, false, not}
 use Prim.Native.Nat.{ℕ, zero, suc, _+_, _*_}
 use native.Mathlib.Omega.{arith}
-use lib.Dec.{T}
 use lib.IntN.{ℤ, pos, _*ℤ_, _+ℤ_}
 use Rattle.whole.proofs.Parts.{Is, shift, is-pos, is-neg, is-add, is-mul-right}
 use Rattle.series.specs.Terms.{Series}
-use Rattle.series.specs.Exact.{num, ratio, den, even, signed, S}
+use Rattle.series.specs.Exact.{num, ratio, even, signed, S}
 
 unfoldable mutual
   pub same : Series → ℕ → ℕ → ℕ

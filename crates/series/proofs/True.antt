@@ -1,7 +1,7 @@
 -- "Required: Lo <= 2^28 S_9(X), 2^28 S_10(X) <= Hi at every depth": for any series the best raw bounds are true of every
 -- exact sum long enough. Assumes nothing.
 use mathlib.Core.Path.{_≡_}
-use Prim.Native.Nat.{ℕ, zero, suc, _+_, _-_, _*_, _≤_}
+use Prim.Native.Nat.{ℕ, zero, suc, _-_, _*_, _≤_}
 use native.Mathlib.Omega.{arith}
 use lib.IntN.{ℤ, pos, _*ℤ_}
 use lib.Signed.{_≤ℤ_}

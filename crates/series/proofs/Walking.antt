@@ -1,16 +1,16 @@
 -- The walk through the terms: what each pair adds, that nothing overflows, and what the best bounds become.
 -- Assumes nothing.
-use mathlib.Core.Path.{_≡_, refl, sym, ap, _∙_}
+use mathlib.Core.Path.{_≡_}
 use Prim.Native.Nat.{ℕ, zero, suc, _+_, _-_, _*_, _≤_, _<_, max, min}
 use native.Mathlib.Omega.{arith}
-use native.Mathlib.Nat.{le-trans, mul-le-mul}
-use Rattle.grid.specs.Grid.{one, T-units, depths}
+use native.Mathlib.Nat.{mul-le-mul}
+use Rattle.grid.specs.Grid.{T-units, depths}
 use Rattle.whole.proofs.Parts.{is-sub}
 use Rattle.series.specs.Terms.{l, u, Q-, Q+}
 use Rattle.series.specs.Bounds.{evens, odds, rawLow, rawHigh, greatestLow, leastHigh}
 use Rattle.series.specs.Sine.{sine, Lo, Hi}
 use Rattle.series.specs.Walk.{raise, raised, Small, bestLow, bestHigh}
-use Rattle.series.proofs.Range.{Q-order, Q-within, Q-limit, term-limit, u-within, l-within, evens-limit, odds-limit}
+use Rattle.series.proofs.Range.{Q-order, Q-within, term-limit, u-within, l-within, evens-limit, odds-limit}
 use Rattle.series.proofs.Sides.{raw-low-within, raw-high-within, Lo-within, Hi-within}
 use Rattle.series.proofs.Raising.{Inside, raised-is, raised-greater, raised-lesser, raised-small}
 

@@ -2,7 +2,7 @@
 use Prim.Native.Nat.{ℕ, zero, suc, _+_, _-_, _*_, _≤_, _<_}
 use mathlib.Core.Path.{_≡_}
 use lib.IntN.{ℤ, pos, negsuc}
-use Rattle.grid.specs.Grid.{one, T-units, depths}
+use Rattle.grid.specs.Grid.{T-units, depths}
 use Rattle.grid.specs.declared.Angle.{Angle}
 use Rattle.grid.specs.declared.Depth.{Depth}
 use Rattle.series.specs.Terms.{l, u, Q-, Q+}

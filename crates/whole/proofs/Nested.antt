@@ -1,6 +1,6 @@
 -- Dividing twice with the same rounding is dividing once by the product. Assumes nothing.
 use mathlib.Core.Path.{_≡_}
-use Prim.Native.Nat.{ℕ, _+_, _*_, _≤_, _<_}
+use Prim.Native.Nat.{ℕ, _*_, _≤_, _<_}
 use native.Mathlib.Omega.{arith}
 use native.Mathlib.Nat.{le-antisymm, mul-le-mul-right, mul-pos, div-div-eq-div-mul}
 use Rattle.whole.specs.Round.{down, up}

@@ -1,11 +1,11 @@
 -- `ends::settle` meets its contract: the walk goes on until a depth accepts, rules every depth out, or is the one asked for.
 -- Assumes nothing.
 use mathlib.Core.Path.{_≡_, sym, ap, _∙_}
-use mathlib.Core.Bool.{Bool, true, false}
+use mathlib.Core.Bool.{Bool}
 use Prim.Native.Nat.{ℕ, suc, _-_, _≤_, _<_}
 use native.Mathlib.Omega.{arith}
 use borrow.Author.Needs.{needs}
-use Rattle.grid.specs.Grid.{T-units, depths}
+use Rattle.grid.specs.Grid.{T-units}
 use Rattle.series.specs.Walk.{walk}
 use Rattle.series.specs.declared.Walk.{Walk}
 use Rattle.series.proofs.Depths.{unfinished, onward, own-pairs, walked-own}

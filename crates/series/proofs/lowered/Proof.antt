@@ -1,11 +1,10 @@
 -- `series::lowered` meets its contract: the difference of two naturals below 2^63. Assumes nothing.
 use mathlib.Core.Path.{_≡_, ap, _∙_, subst, sym}
-use Prim.Native.Nat.{ℕ, _<_}
 use native.Mathlib.Omega.{arith}
 use borrow.Author.Needs.{needs}
 use lib.IntN.{ℤ, pos, subℕ, _-ℤ_}
 use mir.Syntax.{w64}
-use mir.Val.{toZ, ofZ, SFits}
+use mir.Val.{toZ, SFits}
 use mir.Facts.{toZ-ofZ, toZ-pos}
 use Rattle.series.specs.Walk.{raise}
 use Rattle.series.proofs.Raising.{within-fits}

@@ -6,14 +6,14 @@ use native.Mathlib.Omega.{arith}
 use borrow.Author.Needs.{needs}
 use lib.IntN.{pos}
 use Rattle.grid.specs.Grid.{T-units, depths}
-use Rattle.grid.specs.Codes.{Check, answer, x-check, depth-check}
+use Rattle.grid.specs.Codes.{answer, x-check, depth-check}
 use Rattle.grid.specs.declared.Angle.{Angle}
 use Rattle.grid.specs.declared.Depth.{Depth}
 use Rattle.grid.proofs.Made.{Given, was-made, value-made, was-refused, x-fits, depth-fits}
 use Rattle.grid.proofs.Enums.{angles, depth-answers}
 use Rattle.series.specs.Sine.{Lo, Hi}
 use Rattle.series.specs.Entry.{sineRule}
-use Rattle.series.specs.Walk.{OnGrid, raisedBounds}
+use Rattle.series.specs.Walk.{raisedBounds}
 use Rattle.series.specs.declared.Raised.{Raised}
 use Rattle.series.specs.declared.SineBounds.{SineBounds}
 use Rattle.series.proofs.Sides.{Lo-within, Hi-within}

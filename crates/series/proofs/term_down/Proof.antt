@@ -1,6 +1,5 @@
 -- `series::term_down` meets its contract: the shift divides by 2^28, and dividing twice is dividing by the product.
 -- Assumes nothing.
-use mathlib.Core.Path.{sym}
 use Prim.Native.Nat.{_*_}
 use native.Mathlib.Omega.{arith}
 use native.Mathlib.Nat.{mul-le-mul}

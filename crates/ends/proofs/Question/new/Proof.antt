@@ -1,15 +1,12 @@
 -- `ends::Question::new` meets its contract: the orbit's checks, then the depth's, then the angle's. Assumes nothing.
-use mathlib.Core.Path.{_≡_, sym, ap, _∙_}
+use mathlib.Core.Path.{sym, _∙_}
 use mathlib.Core.List.{[], _∷_}
 use Prim.Native.Nat.{ℕ}
 use borrow.Author.Needs.{needs}
 use Rattle.grid.specs.Codes.{answer, x-check, depth-check}
-use Rattle.grid.specs.declared.Angle.{Angle}
-use Rattle.grid.specs.declared.Depth.{Depth}
 use Rattle.grid.proofs.Made.{Given, was-made, value-made, was-refused}
 use Rattle.grid.proofs.Enums.{angles, depth-answers}
-use Rattle.ends.specs.Entry.{orbitChecks, orbitAt, questionAt, questionOf}
-use Rattle.ends.specs.declared.Question.{Question}
+use Rattle.ends.specs.Entry.{orbitChecks, orbitAt, questionAt}
 use Rattle.ends.specs.declared.QuestionOr.{QuestionOr}
 use Rattle.ends.specs.declared.QuestionOr.the-variants as question
 use Rattle.ends.proofs.Enums.{orbits}
