@@ -1,6 +1,6 @@
 // The grid on which the user's numbers stand, and the codes of what stands outside it.
 ghost use mathlib.Core.Path.{_≡_};
-ghost use Prim.Native.Nat.{_+_, _-_, _≤_, min};
+ghost use Prim.Native.Nat.{_+_, _-_, min};
 ghost use Rattle.grid.specs.Grid.{T-units};
 ghost use Rattle.grid.specs.Make.{angleOf, eccentricityOf, depthOf};
 
@@ -102,9 +102,12 @@ pub fn lowered(x: u64, n: u64) -> u64
 
 // x + n, or T where that is above T.
 pub fn raised(x: u64, n: u64) -> u64
-    requires { ⌜ (x ≤ T-units) × (n ≤ 1099511627776) ⌝ }
     ensures { λ r. ⌜ r ≡ min (x + n) T-units ⌝ }
 {
-    let sum = x + n;
-    if sum < T { sum } else { T }
+    if x <= T {
+        if n <= T - x {
+            return x + n;
+        }
+    }
+    T
 }

@@ -1,10 +1,8 @@
 -- `proposal::holds` meets its contract: the two ends of the width, tested one after the other. Assumes nothing.
 use mathlib.Core.Path.{_≡_}
 use mathlib.Core.Bool.{true, false}
-use Prim.Native.Nat.{_+_, _^_, _≤_}
-use native.Mathlib.Omega.{arith}
+use Prim.Native.Nat.{_+_}
 use native.Mathlib.Nat.{min-le-right}
-use lib.Pow.{pow-mono}
 use borrow.Author.Needs.{needs}
 use Rattle.grid.specs.Grid.{T-units, depths}
 use Rattle.ends.specs.Ends.{lowerEnd}
@@ -19,8 +17,7 @@ lowered-requires : tie.Need-lowered-requires
 lowered-requires c κs = search needs
 
 raised-requires : tie.Need-raised-requires
-raised-requires c κs =
-    let h : 2 ^ c .before .before .args .j ≤ 2 ^ 30 = pow-mono {j = 30} (omega arith) in omega arith
+raised-requires c κs = search needs
 
 lower-requires : tie.Need-lower-requires
 lower-requires c κs = search needs
