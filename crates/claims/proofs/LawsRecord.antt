@@ -12,18 +12,8 @@ use Rattle.judge.specs.declared.Verdict.{Verdict}
 use Rattle.judge.specs.declared.Verdict.the-variants.{Confirmed, Refuted, Undecided}
 use Rattle.judge.proofs.Small.{of-judged}
 use Rattle.claims.specs.Record.{twenty, reserved-check, byteOf, claimAt, answerAt}
+use Rattle.claims.specs.Answer.{Answer, confirmed, refuted, undecided, reserved-not-zero, m-above-H, a-above-one, depth-not-1-to-5, estimate-off-range}
 use Rattle.claims.proofs.LawsLittle.{little-small}
-
--- "16 Confirmed, 17 Refuted, 18 Undecided, or the record's code 9, 1, 2, 3 or 4"
-pub data Answer : ℕ → Type 0 where
-  confirmed : Answer 16
-  refuted : Answer 17
-  undecided : Answer 18
-  reserved-not-zero : Answer 9
-  m-above-H : Answer 1
-  a-above-one : Answer 2
-  depth-not-1-to-5 : Answer 3
-  estimate-off-range : Answer 4
 
 of-verdict : (v : Verdict) → Answer (byteOf (record { code = 0; verdict = verdictNumber v }))
 of-verdict Confirmed = confirmed

@@ -1,3 +1,4 @@
 pub mod LittleEndian
 pub mod Record
+pub mod Answer
 pub mod Batch

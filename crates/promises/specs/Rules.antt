@@ -14,8 +14,8 @@ use Rattle.proposal.specs.Propose.{concluded, proposalRule}
 use Rattle.judge.specs.Judge.{caseAt, caseVerdict, judgeRule}
 use Rattle.judge.specs.declared.Claim.{Claim}
 use Rattle.claims.specs.Record.{twenty, claimAt, answerAt}
+use Rattle.claims.specs.Answer.{Answer}
 use Rattle.claims.specs.Batch.{answersAfter}
-use Rattle.claims.proofs.LawsRecord.{Answer}
 use Rattle.promises.specs.Demand1.{codeOfByte, batchOf}
 
 -- the answer byte of record i, in the buffer as the batch leaves it
