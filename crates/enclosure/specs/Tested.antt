@@ -1,4 +1,4 @@
--- What the searches ask of their caller. No public contract cites this file.
+-- What the searches ask of their caller. No entry's contract cites this file.
 use Prim.Native.Nat.{ℕ, _≤_}
 use mathlib.Core.Bool.{Bool, true, false, not}
 use Rattle.grid.specs.Grid.{one, H-units, depths}

@@ -1,4 +1,4 @@
--- What the inner functions rest on. No public contract cites this file: it is checked, and need not be believed.
+-- What the inner functions rest on. No entry's contract cites this file: it is checked, and need not be believed.
 use Prim.Native.Nat.{ℕ, _≤_}
 use mathlib.Core.Path.{_≡_}
 use mathlib.Core.Bool.{Bool, true, false}

@@ -1,4 +1,4 @@
--- What the inner functions ask of their caller. No public contract cites this file.
+-- What the inner functions ask of their caller. No entry's contract cites this file.
 use Prim.Native.Nat.{ℕ, _≤_}
 use Rattle.grid.specs.Grid.{one, H-units, T-units, depths, N-units}
 use Rattle.grid.specs.declared.Depth.{Depth}

@@ -1,4 +1,4 @@
--- What the inner functions ask of their numbers. No public contract cites this file.
+-- What the inner functions ask of their numbers. No entry's contract cites this file.
 use Prim.Native.Nat.{ℕ, _≤_, _<_}
 use Rattle.grid.specs.Grid.{T-units}
 use Rattle.ends.specs.declared.Orbit.{Orbit}

@@ -1,4 +1,4 @@
--- What the inner functions ask of their numbers, so that no sum leaves the range of an i64. That the rotations keep to it
+-- What the inner functions ask of their numbers, so that no sum leaves the range of an i64. No entry's contract cites this file. That the rotations keep to it
 -- from the start on is a law of their definition, among the proofs.
 use Prim.Native.Nat.{ℕ, _≤_, _<_}
 use lib.IntN.{ℤ, natAbs}

@@ -1,4 +1,4 @@
--- How the code walks through the terms. No public contract cites this file: it is checked, and need not be believed.
+-- How the code walks through the terms. No entry's contract cites this file: it is checked, and need not be believed.
 use Prim.Native.Nat.{ℕ, zero, suc, _+_, _-_, _*_, _≤_, _<_}
 use mathlib.Core.Path.{_≡_}
 use lib.IntN.{ℤ, pos, negsuc}
