@@ -28,12 +28,15 @@ fn ended(fd: i32) -> bool {
     libc::read(fd, &mut more) == 0
 }
 
-// Judges standard input. One byte more than the longest input is read, so that a longer one is noticed; an input that
-// can't be read to its end is not judged.
+// Judges standard input. One byte more than the longest input is read, so that a longer one is noticed; then no more is
+// waited for. An input that can't be read to its end is not judged.
 pub fn run() {
     let mut input = [0u8; 65_521];
     let mut answers = [0u8; 3_276];
     let n = io::read_full(STDIN_FILENO, &mut input);
+    if n > MOST_BYTES {
+        return;
+    }
     if !ended(STDIN_FILENO) {
         return;
     }

@@ -12,7 +12,7 @@ use Rattle.judge.specs.declared.Verdict.{Verdict}
 use Rattle.judge.specs.declared.Verdict.the-variants.{Confirmed, Refuted, Undecided}
 use Rattle.judge.proofs.Small.{of-judged}
 use Rattle.claims.specs.Record.{twenty, reserved-check, byteOf, claimAt, answerAt}
-use Rattle.claims.specs.Answer.{Answer, confirmed, refuted, undecided, reserved-not-zero, m-above-H, a-above-one, depth-not-1-to-5, estimate-off-range}
+use Rattle.claims.specs.Answer.{Answer, confirmed, refuted, undecided, bad-reserved, bad-m, bad-a, bad-depth, bad-estimate}
 use Rattle.claims.proofs.LawsLittle.{little-small}
 
 of-verdict : (v : Verdict) → Answer (byteOf (record { code = 0; verdict = verdictNumber v }))
@@ -29,7 +29,7 @@ module _ (bytes : List ℕ) (small : (k : ℕ) → getD bytes k 0 < 256) (i : �
   unfolding answerAt
   one-of-eight =
       of-answer Answer (λ (code : ℕ). code) (byteOf (judgeRule (claimAt twenty bytes i)))
-      (reserved-check twenty bytes (i * 20) ∷ []) (λ t. reserved-not-zero, tt)
+      (reserved-check twenty bytes (i * 20) ∷ []) (λ t. bad-reserved, tt)
       (λ p.
-      of-judged (λ (j : Judged). Answer (byteOf j)) (claimAt twenty bytes i) m-above-H a-above-one depth-not-1-to-5
-      estimate-off-range (λ h. absurd (let k : ⊥ = let g = n-fits in omega arith in k)) of-verdict)
+      of-judged (λ (j : Judged). Answer (byteOf j)) (claimAt twenty bytes i) bad-m bad-a bad-depth
+      bad-estimate (λ h. absurd (let k : ⊥ = let g = n-fits in omega arith in k)) of-verdict)

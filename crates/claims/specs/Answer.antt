@@ -1,13 +1,16 @@
 -- The bytes that can answer a record: the section "Claim records".
 use Prim.Native.Nat.{ℕ}
+use Rattle.grid.specs.Codes.{number, reserved-not-zero, m-above-H, a-above-one, depth-not-1-to-5, estimate-off-range}
+use Rattle.judge.specs.Verdict.{verdictNumber}
+use Rattle.judge.specs.declared.Verdict.the-variants.{Confirmed, Refuted, Undecided}
 
 -- "16 Confirmed, 17 Refuted, 18 Undecided, or the record's code 9, 1, 2, 3 or 4"
 pub data Answer : ℕ → Type 0 where
-  confirmed : Answer 16
-  refuted : Answer 17
-  undecided : Answer 18
-  reserved-not-zero : Answer 9
-  m-above-H : Answer 1
-  a-above-one : Answer 2
-  depth-not-1-to-5 : Answer 3
-  estimate-off-range : Answer 4
+  confirmed : Answer (verdictNumber Confirmed)
+  refuted : Answer (verdictNumber Refuted)
+  undecided : Answer (verdictNumber Undecided)
+  bad-reserved : Answer (number reserved-not-zero)
+  bad-m : Answer (number m-above-H)
+  bad-a : Answer (number a-above-one)
+  bad-depth : Answer (number depth-not-1-to-5)
+  bad-estimate : Answer (number estimate-off-range)

@@ -4,7 +4,7 @@ use mathlib.Core.Bool.{not}
 use mathlib.Core.List.{List, [], _∷_, _++_}
 use lib.Dec.{eqb, ltb}
 use lib.ListN.{length, drop}
-use Rattle.grid.specs.Codes.{Check, answer, claims-length, answers-short}
+use Rattle.grid.specs.Codes.{Check, number, done, answer, claims-length, answers-short}
 use Rattle.claims.specs.Record.{Form, answerAt}
 use Rattle.claims.specs.declared.Batch.{Batch}
 
@@ -21,7 +21,7 @@ answers-check form bytes room = record { fails = ltb room (bytes / form .width);
 unfoldable pub batchRule : Form → ℕ → ℕ → Batch
 batchRule form bytes room =
     answer (length-check form bytes ∷ answers-check form bytes room ∷ [])
-    (λ (code : ℕ). record { code = code; count = 0 }) (record { code = 0; count = bytes / form .width })
+    (λ (code : ℕ). record { code = code; count = 0 }) (record { code = number done; count = bytes / form .width })
 
 -- f 0, f 1, .., n of them
 unfoldable pub upTo : (ℕ → ℕ) → ℕ → List ℕ

@@ -4,7 +4,7 @@ use mathlib.Core.Bool.{not, cond}
 use mathlib.Core.List.{List, [], _∷_}
 use lib.Dec.{eqb}
 use lib.Ieee.{binary64, ofBits}
-use Rattle.grid.specs.Codes.{Check, answer, reserved-not-zero}
+use Rattle.grid.specs.Codes.{Check, number, done, answer, reserved-not-zero}
 use Rattle.judge.specs.Judge.{judgeRule}
 use Rattle.judge.specs.declared.Claim.{Claim}
 use Rattle.judge.specs.declared.Judged.{Judged}
@@ -60,7 +60,7 @@ reserved-check form bytes start =
 
 -- "16 Confirmed, 17 Refuted, 18 Undecided, or the record's code": the code where there is one, else the verdict's number
 abbrev pub byteOf : Judged → ℕ
-byteOf j = cond (eqb (j .code) 0) (j .verdict) (j .code)
+byteOf j = cond (eqb (j .code) (number done)) (j .verdict) (j .code)
 
 -- record i is the one that starts at i times the width
 abbrev pub claimAt : Form → List ℕ → ℕ → Claim

@@ -2,7 +2,8 @@
 use Prim.Native.Nat.{ℕ}
 use mathlib.Core.Bool.{Bool, true, false}
 use mathlib.Core.List.{List, [], _∷_}
-use Rattle.grid.specs.Codes.{Check, answer, m-check, a-check, depth-check, x-check}
+use Rattle.grid.specs.Codes.{Check, number, done, answer, m-check, a-check, depth-check, x-check}
+use Rattle.grid.specs.Said.{Said}
 use Rattle.ends.specs.Ends.{lowerEnd, upperEnd}
 use Rattle.ends.specs.declared.Orbit.{Orbit}
 use Rattle.ends.specs.declared.OrbitOr.{OrbitOr}
@@ -22,6 +23,11 @@ orbitAt m a = record { m = m; a = a }
 abbrev pub orbitOf : ℕ → ℕ → OrbitOr
 orbitOf m a = answer (orbitChecks m a) orbit.Refused (orbit.Made (orbitAt m a))
 
+-- R55: the code and the value of each case
+abbrev pub orbitSays : OrbitOr → Said Orbit
+orbitSays (orbit.Made o) = record { code = number done; value = o }
+orbitSays (orbit.Refused code) = record { code = code; value = orbitAt 0 0 }
+
 -- codes 1, 2, 3 and 10 in that order
 abbrev pub questionChecks : ℕ → ℕ → ℕ → ℕ → List Check
 questionChecks x m a d = m-check m ∷ a-check a ∷ depth-check d ∷ x-check x ∷ []
@@ -32,10 +38,15 @@ questionAt x m a d = record { o = orbitAt m a; x = record { units = x }; d = rec
 abbrev pub questionOf : ℕ → ℕ → ℕ → ℕ → QuestionOr
 questionOf x m a d = answer (questionChecks x m a d) question.Refused (question.Made (questionAt x m a d))
 
+-- R55: the code and the value of each case
+abbrev pub questionSays : QuestionOr → Said Question
+questionSays (question.Made q) = record { code = number done; value = q }
+questionSays (question.Refused code) = record { code = code; value = questionAt 0 0 0 0 }
+
 -- accepted or not, as the entries say it
 abbrev pub flagged : Bool → End
-flagged true = record { code = 0; accepted = 1 }
-flagged false = record { code = 0; accepted = 0 }
+flagged true = record { code = number done; accepted = 1 }
+flagged false = record { code = number done; accepted = 0 }
 
 -- "with a code other than 0, all other returned numbers are 0"
 abbrev pub endRule : (Orbit → ℕ → ℕ → Bool) → ℕ → ℕ → ℕ → ℕ → End

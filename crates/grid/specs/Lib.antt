@@ -1,3 +1,4 @@
 pub mod Grid
 pub mod Codes
+pub mod Said
 pub mod Make

@@ -1,7 +1,11 @@
 -- "Angle, eccentricity and depth are types of their own, with .. a checked way to make one (codes 10, 2, 3)".
 use Prim.Native.Nat.{ℕ}
 use mathlib.Core.List.{[], _∷_}
-use Rattle.grid.specs.Codes.{answer, x-check, a-check, depth-check}
+use Rattle.grid.specs.Codes.{number, done, answer, x-check, a-check, depth-check}
+use Rattle.grid.specs.Said.{Said}
+use Rattle.grid.specs.declared.Angle.{Angle}
+use Rattle.grid.specs.declared.Eccentricity.{Eccentricity}
+use Rattle.grid.specs.declared.Depth.{Depth}
 use Rattle.grid.specs.declared.AngleOr.{AngleOr}
 use Rattle.grid.specs.declared.AngleOr.the-variants as angle
 use Rattle.grid.specs.declared.EccentricityOr.{EccentricityOr}
@@ -17,3 +21,16 @@ eccentricityOf a = answer (a-check a ∷ []) eccentricity.Refused (eccentricity.
 
 abbrev pub depthOf : ℕ → DepthOr
 depthOf d = answer (depth-check d ∷ []) depth.Refused (depth.Made (record { pairs = d }))
+
+-- R55: the code and the value of each case
+abbrev pub angleSays : AngleOr → Said Angle
+angleSays (angle.Made x) = record { code = number done; value = x }
+angleSays (angle.Refused code) = record { code = code; value = record { units = 0 } }
+
+abbrev pub eccentricitySays : EccentricityOr → Said Eccentricity
+eccentricitySays (eccentricity.Made e) = record { code = number done; value = e }
+eccentricitySays (eccentricity.Refused code) = record { code = code; value = record { units = 0 } }
+
+abbrev pub depthSays : DepthOr → Said Depth
+depthSays (depth.Made d) = record { code = number done; value = d }
+depthSays (depth.Refused code) = record { code = code; value = record { pairs = 0 } }

@@ -12,13 +12,13 @@ use Rattle.grid.specs.Codes.{Check, number, answer, depth-check, Passed}
 use Rattle.grid.proofs.Made.{Given, passes}
 use Rattle.ends.specs.Exact.{LowerExact, UpperExact}
 use Rattle.judge.specs.Verdict.{lowEnd, highEnd, verdictOf, verdictNumber}
-use Rattle.judge.specs.Judge.{claimChecks, caseAt, caseVerdict, judgeRule}
+use Rattle.judge.specs.Judge.{claimChecks, caseAt, caseVerdict, verdict, judgeRule}
 use Rattle.judge.specs.declared.Claim.{Claim}
 use Rattle.judge.specs.declared.Judged.{Judged}
 use Rattle.judge.specs.declared.Verdict.{Verdict}
 use Rattle.judge.specs.declared.Verdict.the-variants.{Confirmed, Refuted, Undecided}
 use Rattle.judge.proofs.Checks.{tested}
-use Rattle.judge.specs.Exact.{ConfirmedExact, AboveExact, BelowExact, verdict, atDepth}
+use Rattle.judge.specs.Exact.{ConfirmedExact, AboveExact, BelowExact, atDepth}
 use Rattle.judge.proofs.Laws.{is-confirmed, is-refuted, confirmed-exact, refuted-exact, confirmed-kept, refuted-kept, outside}
 
 abbrev refusal : ℕ → Judged
@@ -53,49 +53,47 @@ module _ (k : Claim) where
   unfolding judgeRule
   answered g = g .on refusal (verdict (caseVerdict (caseAt k)))
 
-  -- an answer without a code: every check passed, and the number is the verdict's
-  answer-given : {v : ℕ} → judgeRule k ≡ verdict v → Given (claimChecks k)
-  answer-given h = given (ap (λ (j : Judged). j .code) h)
+  -- an answer that gives a verdict: every check passed
+  pub answer-given : (v : Verdict) → judgeRule k ≡ verdict v → Given (claimChecks k)
+  answer-given v h = given (ap (λ (j : Judged). j .code) h)
 
-  answer-number : {v : ℕ} → judgeRule k ≡ verdict v → caseVerdict (caseAt k) ≡ v
-  answer-number h = ap (λ (j : Judged). j .verdict) (sym (answered (answer-given h)) ∙ h)
-
-by-16 : (v : Verdict) → verdictNumber v ≡ 16 → v ≡ Confirmed
-by-16 Confirmed e = refl
-by-16 Refuted e = absurd (let z : ⊥ = omega arith in z)
-by-16 Undecided e = absurd (let z : ⊥ = omega arith in z)
-
-by-17 : (v : Verdict) → verdictNumber v ≡ 17 → v ≡ Refuted
-by-17 Confirmed e = absurd (let z : ⊥ = omega arith in z)
-by-17 Refuted e = refl
-by-17 Undecided e = absurd (let z : ⊥ = omega arith in z)
+-- a verdict's number is its own
+one-verdict : (v w : Verdict) → verdictNumber v ≡ verdictNumber w → v ≡ w
+one-verdict Confirmed Confirmed e = refl
+one-verdict Refuted Refuted e = refl
+one-verdict Undecided Undecided e = refl
+one-verdict Confirmed Refuted e = absurd (let z : ⊥ = omega arith in z)
+one-verdict Confirmed Undecided e = absurd (let z : ⊥ = omega arith in z)
+one-verdict Refuted Confirmed e = absurd (let z : ⊥ = omega arith in z)
+one-verdict Refuted Undecided e = absurd (let z : ⊥ = omega arith in z)
+one-verdict Undecided Confirmed e = absurd (let z : ⊥ = omega arith in z)
+one-verdict Undecided Refuted e = absurd (let z : ⊥ = omega arith in z)
 
 module _ (k : Claim) where
-  confirmed-case : judgeRule k ≡ verdict 16 → verdictOf (caseAt k .o) (k .depth) (caseAt k .u) (k .n) ≡ Confirmed
-  confirmed-case h = by-16 (verdictOf (caseAt k .o) (k .depth) (caseAt k .u) (k .n)) (answer-number k h)
+  -- the verdict answered is the case's
+  answer-case : (v : Verdict) → judgeRule k ≡ verdict v → caseVerdict (caseAt k) ≡ v
+  answer-case v h =
+      one-verdict (caseVerdict (caseAt k)) v (ap (λ (j : Judged). j .verdict) (sym (answered k (answer-given k v h)) ∙ h))
 
-  refuted-case : judgeRule k ≡ verdict 17 → verdictOf (caseAt k .o) (k .depth) (caseAt k .u) (k .n) ≡ Refuted
-  refuted-case h = by-17 (verdictOf (caseAt k .o) (k .depth) (caseAt k .u) (k .n)) (answer-number k h)
-
-  -- 16: both exact inequalities, at p and at q
-  pub confirmed-says : judgeRule k ≡ verdict 16 → ConfirmedExact (caseAt k .o) (caseAt k .u) (k .n)
+  -- Confirmed: both exact inequalities, at p and at q
+  pub confirmed-says : judgeRule k ≡ verdict Confirmed → ConfirmedExact (caseAt k .o) (caseAt k .u) (k .n)
   confirmed-says h =
-      let t = tested k (answer-given k h) in
+      let t = tested k (answer-given k Confirmed h) in
       confirmed-exact (caseAt k .o) (caseAt k .u) (k .n) (t .ceiling) (k .depth) (t .few)
-      (is-confirmed (caseAt k .o) (caseAt k .u) (k .n) (k .depth) (confirmed-case h))
+      (is-confirmed (caseAt k .o) (caseAt k .u) (k .n) (k .depth) (answer-case Confirmed h))
 
-  -- 17: the exact inequality at the refuting end
-  pub refuted-says : judgeRule k ≡ verdict 17 → AboveExact (caseAt k .o) (caseAt k .u) (k .n) ⊎ BelowExact (caseAt k .o) (caseAt k .u) (k .n)
+  -- Refuted: the exact inequality at the refuting end
+  pub refuted-says : judgeRule k ≡ verdict Refuted → AboveExact (caseAt k .o) (caseAt k .u) (k .n) ⊎ BelowExact (caseAt k .o) (caseAt k .u) (k .n)
   refuted-says h =
-      let t = tested k (answer-given k h) in
+      let t = tested k (answer-given k Refuted h) in
       refuted-exact (caseAt k .o) (caseAt k .u) (k .n) (t .ceiling) (k .depth) (t .few)
-      (is-refuted (caseAt k .o) (caseAt k .u) (k .n) (k .depth) (refuted-case h))
+      (is-refuted (caseAt k .o) (caseAt k .u) (k .n) (k .depth) (answer-case Refuted h))
 
   -- so whatever whole X meets both exact inequalities lies outside p to q
-  pub refuted-outside : judgeRule k ≡ verdict 17 → (X : ℕ) → X ≤ T-units → LowerExact (caseAt k .o) X → UpperExact (caseAt k .o) X
+  pub refuted-outside : judgeRule k ≡ verdict Refuted → (X : ℕ) → X ≤ T-units → LowerExact (caseAt k .o) X → UpperExact (caseAt k .o) X
       → (X < lowEnd (caseAt k .u) (k .n)) ⊎ (highEnd (caseAt k .u) (k .n) < X)
   refuted-outside h X x lower upper =
-      let t = tested k (answer-given k h) in
+      let t = tested k (answer-given k Refuted h) in
       outside (caseAt k .o) (caseAt k .u) (k .n) (t .shape) (t .ceiling) (refuted-says h) X x lower upper
 
   module _ (e : ℕ) (deeper : k .depth ≤ e) (few : e ≤ depths) where
@@ -106,16 +104,16 @@ module _ (k : Claim) where
         let d : depth-check e .fails ≡ false = simp (le-ltb e 1 (omega arith), le-ltb depths e few) in
         passes (claimChecks (atDepth k e)) (p .0, (p .1 .0, (d, p .1 .1 .1)))
 
-    -- a verdict 16 or 17 is the verdict at every greater depth
-    pub confirmed-at : judgeRule k ≡ verdict 16 → judgeRule (atDepth k e) ≡ verdict 16
+    -- a verdict Confirmed or 17 is the verdict at every greater depth
+    pub confirmed-at : judgeRule k ≡ verdict Confirmed → judgeRule (atDepth k e) ≡ verdict Confirmed
     confirmed-at h =
-        answered (atDepth k e) (deeper-given (answer-given k h))
-        ∙ ap (λ (v : Verdict). verdict (verdictNumber v))
-        (confirmed-kept (caseAt k .o) (caseAt k .u) (k .n) (k .depth) e deeper (confirmed-case h))
+        answered (atDepth k e) (deeper-given (answer-given k Confirmed h))
+        ∙ ap verdict
+        (confirmed-kept (caseAt k .o) (caseAt k .u) (k .n) (k .depth) e deeper (answer-case Confirmed h))
 
-    pub refuted-at : judgeRule k ≡ verdict 17 → judgeRule (atDepth k e) ≡ verdict 17
+    pub refuted-at : judgeRule k ≡ verdict Refuted → judgeRule (atDepth k e) ≡ verdict Refuted
     refuted-at h =
-        let t = tested k (answer-given k h) in
-        answered (atDepth k e) (deeper-given (answer-given k h))
-        ∙ ap (λ (v : Verdict). verdict (verdictNumber v))
-        (refuted-kept (caseAt k .o) (caseAt k .u) (k .n) (k .depth) e deeper few (t .shape) (t .ceiling) (refuted-case h))
+        let t = tested k (answer-given k Refuted h) in
+        answered (atDepth k e) (deeper-given (answer-given k Refuted h))
+        ∙ ap verdict
+        (refuted-kept (caseAt k .o) (caseAt k .u) (k .n) (k .depth) e deeper few (t .shape) (t .ceiling) (answer-case Refuted h))

@@ -4,8 +4,8 @@ use native.Mathlib.Omega.{arith}
 use borrow.Author.Tests.{ltb-true}
 use Rattle.grid.specs.Grid.{N-units}
 use Rattle.grid.proofs.Each.{of-answer}
-use Rattle.judge.specs.Verdict.{verdictOf, verdictNumber}
-use Rattle.judge.specs.Judge.{claimChecks, caseAt, caseVerdict, judgeRule}
+use Rattle.judge.specs.Verdict.{verdictNumber}
+use Rattle.judge.specs.Judge.{claimChecks, caseAt, caseVerdict, verdict, judgeRule}
 use Rattle.judge.specs.declared.Claim.{Claim}
 use Rattle.judge.specs.declared.Judged.{Judged}
 use Rattle.judge.specs.declared.Verdict.{Verdict}
@@ -18,8 +18,8 @@ pub of-judged : (P : Judged → Type 0) (c : Claim)
     → ((v : Verdict) → P (record { code = 0; verdict = verdictNumber v })) → P (judgeRule c)
 unfolding judgeRule
 of-judged P c m a d e n v =
-    of-answer P (λ (code : ℕ). record { code = code; verdict = 0 }) (record { code = 0; verdict = caseVerdict (caseAt c) })
-    (claimChecks c) (λ t. m, (λ t. a, (λ t. d, (λ t. e, (λ t. n (ltb-true _ _ t), tt))))) (λ p. let k = caseAt c in v (verdictOf (k .o) (k .d .pairs) (k .u) (k .n)))
+    of-answer P (λ (code : ℕ). record { code = code; verdict = 0 }) (verdict (caseVerdict (caseAt c)))
+    (claimChecks c) (λ t. m, (λ t. a, (λ t. d, (λ t. e, (λ t. n (ltb-true _ _ t), tt))))) (λ p. v (caseVerdict (caseAt c)))
 
 verdict-small : (v : Verdict) → verdictNumber v ≤ 18
 verdict-small Confirmed = omega arith

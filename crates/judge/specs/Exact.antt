@@ -6,7 +6,6 @@ use Rattle.ends.specs.Exact.{LowerExact, UpperExact}
 use Rattle.units.specs.declared.Units.{Units}
 use Rattle.judge.specs.Verdict.{lowEnd, highEnd}
 use Rattle.judge.specs.declared.Claim.{Claim}
-use Rattle.judge.specs.declared.Judged.{Judged}
 
 -- the exact inequalities at p and q
 pub record ConfirmedExact (o : Orbit) (u : Units) (n : ℕ) : Type 0 where
@@ -21,10 +20,6 @@ pub record AboveExact (o : Orbit) (u : Units) (n : ℕ) : Type 0 where
 pub record BelowExact (o : Orbit) (u : Units) (n : ℕ) : Type 0 where
   pub within : n + 1 ≤ u .c
   pub upper : UpperExact o (u .c - (n + 1))
-
--- the answer with no code
-abbrev pub verdict : ℕ → Judged
-verdict v = record { code = 0; verdict = v }
 
 -- the same claim at another depth
 abbrev pub atDepth : Claim → ℕ → Claim

@@ -2,10 +2,12 @@
 use Prim.Native.Nat.{ℕ}
 use mathlib.Core.List.{List, [], _∷_}
 use Rattle.grid.specs.Codes.{Check, number, done, answer, m-check, a-check, depth-check, n-check}
+use Rattle.grid.specs.Said.{Said}
 use Rattle.units.specs.Units.{estimate-check, floorAndCeiling}
 use Rattle.judge.specs.Verdict.{verdictOf, verdictNumber}
 use Rattle.judge.specs.declared.Claim.{Claim}
 use Rattle.judge.specs.declared.Judged.{Judged}
+use Rattle.judge.specs.declared.Verdict.{Verdict}
 use Rattle.judge.specs.declared.Case.{Case}
 use Rattle.judge.specs.declared.CaseOr.{CaseOr}
 use Rattle.judge.specs.declared.CaseOr.the-variants.{Made, Refused}
@@ -28,13 +30,23 @@ caseAt c =
 abbrev pub caseOf : Claim → CaseOr
 caseOf c = answer (claimChecks c) Refused (Made (caseAt c))
 
+-- R55: the code and the value of each case
+abbrev pub caseSays : CaseOr → Said Case
+caseSays (Made k) = record { code = number done; value = k }
+caseSays (Refused code) =
+    record { code = code; value = record { o = record { m = 0; a = 0 }; u = record { f = 0; c = 0 }; n = 0; d = record { pairs = 0 } } }
+
 -- the verdict on a case
-abbrev pub caseVerdict : Case → ℕ
-caseVerdict k = verdictNumber (verdictOf (k .o) (k .d .pairs) (k .u) (k .n))
+abbrev pub caseVerdict : Case → Verdict
+caseVerdict k = verdictOf (k .o) (k .d .pairs) (k .u) (k .n)
+
+-- R48: the answer that gives a verdict
+abbrev pub verdict : Verdict → Judged
+verdict v = record { code = number done; verdict = verdictNumber v }
 
 -- the first code of the claim's checks, and the verdict where there is none;
 -- "With a code other than 0, all other returned numbers are 0"
 unfoldable pub judgeRule : Claim → Judged
 judgeRule c =
     answer (claimChecks c) (λ code. record { code = code; verdict = 0 })
-    (record { code = number done; verdict = caseVerdict (caseAt c) })
+    (verdict (caseVerdict (caseAt c)))

@@ -108,14 +108,14 @@ fn decide(o: Orbit, u: Units, n: u64, d: Depth) -> Verdict
 }
 
 // A claim whose numbers are all within their limits.
-struct Case {
-    o: Orbit,
-    u: Units,
-    n: u64,
-    d: Depth,
+pub struct Case {
+    pub o: Orbit,
+    pub u: Units,
+    pub n: u64,
+    pub d: Depth,
 }
 
-enum CaseOr {
+pub enum CaseOr {
     Made(Case),
     Refused(u32),
 }

@@ -5,17 +5,26 @@ use mathlib.Core.List.{List, [], _∷_}
 use Prim.Native.Nat.{ℕ, _*_, _/_}
 use lib.ListN.{length}
 use Rattle.grid.specs.Codes.{Code, number, order, answer, done, m-above-H, a-above-one, depth-not-1-to-5, estimate-off-range, n-above-limit, T-no-upper-end, claims-length, answers-short, reserved-not-zero, x-above-T}
+use Rattle.grid.specs.Make.{angleSays, eccentricitySays, depthSays}
+use Rattle.grid.specs.declared.AngleOr.the-variants as angle
+use Rattle.grid.specs.declared.EccentricityOr.the-variants as eccentricity
+use Rattle.grid.specs.declared.DepthOr.the-variants as depth
 use Rattle.series.specs.Sine.{Lo, Hi}
 use Rattle.series.specs.Entry.{sineRule}
 use Rattle.ends.specs.declared.Orbit.{Orbit}
 use Rattle.ends.specs.declared.End.{End}
 use Rattle.ends.specs.Ends.{lowerEnd, upperEnd}
-use Rattle.ends.specs.Entry.{orbitAt, questionChecks, flagged, endRule}
+use Rattle.ends.specs.declared.OrbitOr.the-variants as orbit
+use Rattle.ends.specs.declared.QuestionOr.the-variants as question
+use Rattle.ends.specs.Entry.{orbitAt, orbitSays, questionChecks, questionAt, questionSays, flagged, endRule}
 use Rattle.enclosure.specs.Enclosure.{enclosed}
 use Rattle.rotations.specs.Rotate.{rotated}
 use Rattle.proposal.specs.Propose.{concluded, proposalRule}
-use Rattle.judge.specs.Verdict.{verdictOf, verdictNumber}
-use Rattle.judge.specs.Judge.{claimChecks, caseAt, caseVerdict, judgeRule}
+use Rattle.units.specs.Units.{floorAndCeiling, unitsSays}
+use Rattle.units.specs.declared.UnitsOr.the-variants as units
+use Rattle.judge.specs.Verdict.{verdictNumber}
+use Rattle.judge.specs.Judge.{claimChecks, caseAt, caseSays, caseVerdict, verdict, judgeRule}
+use Rattle.judge.specs.declared.CaseOr.the-variants as case
 use Rattle.judge.specs.declared.Verdict.{Verdict}
 use Rattle.judge.specs.declared.Verdict.the-variants.{Confirmed, Refuted, Undecided}
 use Rattle.claims.specs.Record.{twenty, reserved-check, byteOf, claimAt, answerAt}
@@ -24,7 +33,7 @@ use Rattle.claims.proofs.LawsAnswers.{refused-kept}
 use Rattle.promises.specs.Refuses.{Refuses}
 use Rattle.promises.specs.Demand1.{recordChecks, codeOfByte, Demand1}
 use Rattle.promises.proofs.Conditions.{conditions}
-use Rattle.promises.proofs.Refuses.{refuses, through}
+use Rattle.promises.proofs.Refuses.{refuses, through, said}
 
 pub flag-done : (t : Bool) → flagged t .code ≡ 0
 flag-done true = refl
@@ -35,7 +44,7 @@ pub ends : (end : Orbit → ℕ → ℕ → Bool) (x m a d : ℕ)
     → Refuses (questionChecks x m a d) (λ (r : End). r .code) (λ k. record { code = k; accepted = 0 }) (endRule end x m a d)
 ends end x m a d = refuses (λ k. refl) (flagged (end (orbitAt m a) d x)) (flag-done (end (orbitAt m a) d x)) tt
 
-verdict-code : (v : Verdict) → codeOfByte (verdictNumber v) ≡ 0
+pub verdict-code : (v : Verdict) → codeOfByte (verdictNumber v) ≡ 0
 verdict-code Confirmed = refl
 verdict-code Refuted = refl
 verdict-code Undecided = refl
@@ -55,18 +64,18 @@ code-byte x-above-T = refl
 
 -- the byte of a record by all the record's checks
 pub byte-is : (claims : List ℕ) (i : ℕ)
-    → answerAt twenty claims i ≡ answer (recordChecks claims i) (λ (k : ℕ). k) (caseVerdict (caseAt (claimAt twenty claims i)))
+    → answerAt twenty claims i ≡ answer (recordChecks claims i) (λ (k : ℕ). k) (verdictNumber (caseVerdict (caseAt (claimAt twenty claims i))))
 unfolding answerAt judgeRule
 byte-is claims i =
     let c = claimAt twenty claims i in
     ap (λ (b : ℕ). answer (reserved-check twenty claims (i * 20) ∷ []) (λ (k : ℕ). k) b)
-    (through byteOf (λ k. record { code = k; verdict = 0 }) (record { code = 0; verdict = caseVerdict (caseAt c) }) (claimChecks c))
+    (through byteOf (λ k. record { code = k; verdict = 0 }) (verdict (caseVerdict (caseAt c))) (claimChecks c))
 
 bytes : (claims : List ℕ) (i : ℕ) → Refuses (recordChecks claims i) codeOfByte (λ k. k) (answerAt twenty claims i)
 bytes claims i =
-    let k = caseAt (claimAt twenty claims i) in
+    let v = caseVerdict (caseAt (claimAt twenty claims i)) in
     subst (Refuses (recordChecks claims i) codeOfByte (λ k. k)) (sym (byte-is claims i))
-    (refuses code-byte (caseVerdict k) (verdict-code (verdictOf (k .o) (k .d .pairs) (k .u) (k .n))) tt)
+    (refuses code-byte (verdictNumber v) (verdict-code v) tt)
 
 pub demand-1 : Demand1
 unfolding sineRule proposalRule concluded judgeRule batchRule order
@@ -77,11 +86,18 @@ demand-1 =
       upper-end = ends upperEnd;
       enclose = λ m a d. refuses (λ k. refl) (enclosed (orbitAt m a) d) refl tt;
       propose = λ m a. refuses (λ k. refl) (concluded (orbitAt m a) (rotated (orbitAt m a))) refl tt;
-      judge = λ c. refuses (λ k. refl) (record { code = 0; verdict = caseVerdict (caseAt c) }) refl tt;
+      judge = λ c. refuses (λ k. refl) (verdict (caseVerdict (caseAt c))) refl tt;
       batch = λ claims answers. refuses (λ k. refl) (record { code = 0; count = length claims / 20 }) refl tt;
       lent = refused-kept twenty;
       byte = bytes;
-      in-order = λ x m a d i c claims answers. tt;
+      angle = λ x. said angleSays angle.Refused (λ k. refl) (angle.Made (record { units = x })) refl tt;
+      eccentricity = λ a. said eccentricitySays eccentricity.Refused (λ k. refl) (eccentricity.Made (record { units = a })) refl tt;
+      depth = λ d. said depthSays depth.Refused (λ k. refl) (depth.Made (record { pairs = d })) refl tt;
+      orbit = λ m a. said orbitSays orbit.Refused (λ k. refl) (orbit.Made (orbitAt m a)) refl tt;
+      question = λ x m a d. said questionSays question.Refused (λ k. refl) (question.Made (questionAt x m a d)) refl tt;
+      in-units = λ x. said unitsSays units.Refused (λ k. refl) (units.Made (floorAndCeiling x)) refl tt;
+      claim = λ c. said caseSays case.Refused (λ k. refl) (case.Made (caseAt c)) refl tt;
+      in-order = λ x m a d i f c claims answers. tt;
       conditions = conditions;
       own = tt;
     }

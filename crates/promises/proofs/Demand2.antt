@@ -27,6 +27,7 @@ use Rattle.proposal.specs.Certify.{lowAt, highAt, certifies, certificate}
 use Rattle.proposal.specs.Propose.{concluded, proposalRule}
 use Rattle.rotations.proofs.Ranges.{brought-within}
 use Rattle.proposal.proofs.Certificate.{certificate-only, concluded-smallest, concluded-true}
+use Rattle.judge.specs.declared.Verdict.the-variants.{Confirmed, Refuted}
 use Rattle.judge.proofs.Entry.{confirmed-says, refuted-says}
 use Rattle.claims.specs.Record.{twenty, claimAt}
 use Rattle.promises.specs.Demand2.{SineTrue, EndsTrue, Certified, Demand2}
@@ -39,11 +40,11 @@ use Rattle.promises.proofs.Bytes.{after-judged}
 
 module _ (x d : ℕ) (e : sineRule x d .code ≡ 0) where
   angle-in : x ≤ T-units
-  angle-in = x-fits x (demand-1 .sine x d .done .0 e .1 .0)
+  angle-in = x-fits x (demand-1 .sine x d .passed .0 e .1 .0)
 
   sine-true : SineTrue x (sineRule x d)
   sine-true =
-      let few = depth-fits d (demand-1 .sine x d .done .0 e .0) .1 in
+      let few = depth-fits d (demand-1 .sine x d .passed .0 e .0) .1 in
       rw (rules .sine x d e) (record { low = Lo-true x d angle-in few; high = Hi-true x d angle-in few })
 
 sine-width : (x : ℕ) → sineRule x depths .code ≡ 0 → sineRule x depths .hi ≤ℤ (sineRule x depths .lo +ℤ pos 32)
@@ -123,11 +124,11 @@ demand-2 =
           let c = code-zero m a d e .checks in
           ends-true m a d (c .m-in) (c .a-in) (c .some) (c .few) (enclosureRule m a d) (encloses m a d e);
       propose = λ m a e.
-          let p = demand-1 .propose m a .done .0 e in
+          let p = demand-1 .propose m a .passed .0 e in
           rw (rules .propose m a e) (certified m a (m-fits m (p .0)) (a-fits a (p .1 .0)) (rotated (orbitAt m a)));
       confirmed = confirmed-says;
       refuted = refuted-says;
-      byte-confirmed = λ claims answers i h e. confirmed-says (claimAt twenty claims i) (after-judged claims answers i 16 h refl e);
-      byte-refuted = λ claims answers i h e. refuted-says (claimAt twenty claims i) (after-judged claims answers i 17 h refl e);
+      byte-confirmed = λ claims answers i h e. confirmed-says (claimAt twenty claims i) (after-judged claims answers i Confirmed h e);
+      byte-refuted = λ claims answers i h e. refuted-says (claimAt twenty claims i) (after-judged claims answers i Refuted h e);
       rules = rules;
     }

@@ -42,7 +42,7 @@ module _ (end : Orbit → ℕ → ℕ → Bool) (x m a d : ℕ) where
 
   known : (t : Bool) → endRule end x m a d ≡ flagged t → Asked x m a d × (end (orbitAt m a) d x ≡ t)
   known t e =
-      let p = ends end x m a d .done .0 (ap (λ (r : End). r .code) e ∙ flag-done t) in
+      let p = ends end x m a d .passed .0 (ap (λ (r : End). r .code) e ∙ flag-done t) in
       (asked x m a d p, is-test (end (orbitAt m a) d x) t (sym (answered p) ∙ e))
 
   -- what an answer of code 0 says: what was asked, and what the test was

@@ -6,5 +6,6 @@ pub mod Ends
 pub mod Bytes
 pub mod Demand2
 pub mod Demand3
+pub mod Laws
 pub mod Starred
 pub mod Unique

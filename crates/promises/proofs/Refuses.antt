@@ -1,5 +1,5 @@
 -- An answer that begins with checks refuses as the first demand asks, whatever the entry. Assumes nothing.
-use mathlib.Core.Path.{_≡_, refl, sym, ap, _∙_}
+use mathlib.Core.Path.{_≡_, refl, sym, ap, subst, _∙_}
 use mathlib.Core.Bool.{Bool, true, false, cond, true≢false}
 use mathlib.Core.List.{List, [], _∷_}
 use mathlib.Core.Logic.{_⊎_, inl, inr, _↔_}
@@ -8,6 +8,7 @@ use native.Mathlib.Omega.{arith}
 use lib.Dec.{T, ltb, ltb→lt}
 use Rattle.whole.proofs.Table.{both-parts}
 use Rattle.grid.specs.Codes.{Code, Check, number, first, answer, Passed}
+use Rattle.grid.specs.Said.{Said}
 use Rattle.promises.specs.Refuses.{FirstFails, Refuses, all}
 
 -- no code of a check is 0
@@ -39,9 +40,9 @@ module _ {A : Type 0} (code : A → ℕ) (zeros : ℕ → A) where
       ],
     )
 
-    done-step : (t : Bool) (F : Type 0) → 0 < n → (code rest ≡ 0 ↔ F) → code (cond t (zeros n) rest) ≡ 0 ↔ (t ≡ false) × F
-    done-step true F some h = (λ e. absurd (let z : ⊥ = omega arith in z), λ p. absurd (true≢false (p .0)))
-    done-step false F some h = (λ e. (refl, h .0 e), λ p. h .1 (p .1))
+    passed-step : (t : Bool) (F : Type 0) → 0 < n → (code rest ≡ 0 ↔ F) → code (cond t (zeros n) rest) ≡ 0 ↔ (t ≡ false) × F
+    passed-step true F some h = (λ e. absurd (let z : ⊥ = omega arith in z), λ p. absurd (true≢false (p .0)))
+    passed-step false F some h = (λ e. (refl, h .0 e), λ p. h .1 (p .1))
 
     others-step : (t : Bool) → ((code rest ≡ 0 → ⊥) → rest ≡ zeros (code rest)) → (code (cond t (zeros n) rest) ≡ 0 → ⊥)
         → cond t (zeros n) rest ≡ zeros (code (cond t (zeros n) rest))
@@ -55,8 +56,8 @@ module _ {A : Type 0} {code : A → ℕ} {zeros : ℕ → A}
   refuses {cs = []} t =
       record {
         named = zero;
-        coded = λ k h. (λ e. let z : ⊥ = omega arith in z, λ f. absurd f);
-        done = (λ e. tt, λ p. zero);
+        coded = λ k some. (λ e. some (sym e ∙ zero), λ f. absurd f);
+        passed = (λ e. tt, λ p. zero);
         others = λ f. absurd (f zero);
       }
   refuses {cs = c ∷ cs} t =
@@ -68,7 +69,7 @@ module _ {A : Type 0} {code : A → ℕ} {zeros : ℕ → A}
       record {
         named = named-step code zeros n o r (c .fails) (c .code) (first cs) refl (h .named);
         coded = λ k some. coded-step code zeros n o r (c .fails) k (FirstFails k cs) (h .coded k some);
-        done = done-step code zeros n o r (c .fails) (Passed cs) (ltb→lt 0 n (b .0)) (h .done);
+        passed = passed-step code zeros n o r (c .fails) (Passed cs) (ltb→lt 0 n (b .0)) (h .passed);
         others = others-step code zeros n o r (c .fails) (h .others);
       }
 
@@ -83,3 +84,11 @@ through {A} {B} f zeros given (c ∷ cs) =
     either : (t : Bool) (x y : A) → f (cond t x y) ≡ cond t (f x) (f y)
     either true x y = refl
     either false x y = refl
+
+-- an enum that answers a value or a code, by what it says
+pub said : {A B : Type 0} (says : A → Said B) (refused : ℕ → A) → ((k : Code) → says (refused (number k)) .code ≡ number k)
+    → (made : A) → says made .code ≡ 0 → {cs : List Check} → T (coded cs)
+    → Refuses cs (λ (s : Said B). s .code) (λ k. says (refused k)) (says (answer cs refused made))
+said {A} {B} says refused own made zero {cs} t =
+    subst (Refuses cs (λ (s : Said B). s .code) (λ k. says (refused k))) (sym (through says refused made cs))
+    (refuses own (says made) zero t)

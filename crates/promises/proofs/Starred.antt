@@ -1,5 +1,8 @@
 -- The numbers to hold against, computed from the definitions. Assumes nothing.
-use mathlib.Core.Path.{refl}
+use mathlib.Core.Path.{_≡_, refl}
+use Prim.Native.Nat.{ℕ, _≤_}
+use native.Mathlib.Omega.{arith}
+use borrow.Author.Tests.{le-ltb}
 use lib.Ieee.{ofBits}
 use Rattle.series.specs.Terms.{l, u}
 use Rattle.series.specs.Bounds.{evens, odds, rawLow, rawHigh, greatestLow, leastHigh}
@@ -14,22 +17,30 @@ use Rattle.judge.specs.Judge.{judgeRule}
 use Rattle.claims.specs.LittleEndian.{littleEndian}
 use Rattle.claims.specs.Record.{answerAt}
 use Rattle.claims.specs.Batch.{batchRule, upTo, answersAfter}
-use Rattle.promises.specs.Starred.{AllHold, starred, others, Starred}
+use Rattle.series.proofs.Zero.{Lo-zero, Hi-zero}
+use Rattle.grid.specs.Grid.{depths}
+use Rattle.promises.specs.Starred.{Bounds, AllHold, starred, others, Starred}
 
 infixr 4 _and_
 _and_ : {A B : Type 0} → A → B → A × B
 p and q = (p, q)
 
+-- X = 0, at any depth
+at-0 : (d : ℕ) → 1 ≤ d → d ≤ depths → Bounds 0 d 0 0
+unfolding sineRule
+at-0 d some few = simp (le-ltb d 1 some, le-ltb depths d few, Lo-zero d, Hi-zero d)
+
 list : AllHold starred
 unfolding starred sineRule l u evens odds rawLow rawHigh greatestLow leastHigh lowerEnd upperEnd halve turns lowerAnswer upperAnswer offRange ofBits
 list =
-    refl and refl and refl and refl and refl and refl and refl and refl and (refl, refl) and refl and refl and refl and refl
+    at-0 and refl and refl and refl and (refl, refl) and refl and refl and refl and refl
     and refl and refl and refl and refl and refl and refl and refl and refl and refl and refl and refl and tt
 
 beside : AllHold others
 unfolding others l u evens odds rawLow rawHigh greatestLow leastHigh lowerEnd upperEnd offRange ofBits verdictOf confirmed refuted judgeRule littleEndian answerAt batchRule upTo answersAfter
 beside =
-    (refl, refl) and (refl, refl) and (refl, refl) and (refl, refl) and (refl, refl) and (refl, refl) and refl and tt
+    (refl, refl) and (refl, refl) and (refl, refl) and (refl, refl) and (refl, refl) and (refl, refl) and refl and refl and refl
+    and refl and (refl, refl) and tt
 
 pub starred-met : Starred
 starred-met = record { list = list; beside = beside; circle = circle }

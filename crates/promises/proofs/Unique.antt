@@ -2,12 +2,15 @@
 use mathlib.Core.Path.{_≡_, sym, ap₂, _∙_}
 use mathlib.Core.List.{List}
 use Prim.Native.Nat.{ℕ}
-use Rattle.claims.specs.declared.Batch.{Batch}
-use Rattle.promises.specs.Unique.{OneResult, Unique}
+use Rattle.promises.specs.Unique.{OneResult, Left, Unique}
 
 -- a contract that says what the result is
 one : {A : Type 0} (rule : A) → OneResult (λ (r : A). r ≡ rule)
 one rule r s e f = e ∙ sym f
+
+-- a result and the answers buffer that is left
+both : {A : Type 0} {r s : Left A} → r .result ≡ s .result → r .answers ≡ s .answers → r ≡ s
+both {A} = ap₂ (λ (b : A) (l : List ℕ). record { result = b; answers = l })
 
 pub unique : Unique
 unique =
@@ -18,13 +21,16 @@ unique =
       enclose = λ m a d. one _;
       propose = λ m a. one _;
       judge = λ c. one _;
-      judge-claims = λ claims before r s e f.
-          ap₂ (λ (b : Batch) (l : List ℕ). record { result = b; answers = l }) (e .result ∙ sym (f .result))
-          (e .answers ∙ sym (f .answers));
+      judge-claims = λ claims before r s e f. both (e .result ∙ sym (f .result)) (e .answers ∙ sym (f .answers));
       angle = λ n. one _;
       eccentricity = λ n. one _;
       depth = λ n. one _;
       orbit = λ m a. one _;
       question = λ x m a d. one _;
       in-units = λ e. one _;
+      answer-file = λ input before r s e f. both (e .result ∙ sym (f .result)) (e .answers ∙ sym (f .answers));
+      lowered = λ x n. one _;
+      raised = λ x n. one _;
+      bring = λ e. one _;
+      number-of = λ v. one _;
     }

@@ -1,4 +1,4 @@
--- The table of codes, "given exactly when", in inequalities: when each check of an entry fails.
+-- R5's table of codes in inequalities: when each check of an entry fails.
 use mathlib.Core.Path.{_≡_}
 use mathlib.Core.Bool.{true}
 use mathlib.Core.List.{List}
@@ -17,7 +17,7 @@ use Rattle.units.specs.Units.{product, estimate-check}
 use Rattle.claims.specs.Record.{twenty, reserved-check}
 use Rattle.claims.specs.Batch.{length-check, answers-check}
 
--- "estimate is not a number, infinite, below zero, or above T units": it is product / den units
+-- code 4: a NaN, infinite, below zero, or above T units; a finite estimate is product / den units in size
 abbrev pub OffRange : Float → Type 0
 OffRange nan = Unit {0}
 OffRange (inf s) = Unit {0}
@@ -28,24 +28,24 @@ abbrev pub Exactly : Check → Type 0 → Type 0
 Exactly c condition = c .fails ≡ true ↔ condition
 
 pub record Conditions : Type 0 where
-  -- 1: "M above H"
+  -- code 1
   pub m : (m : ℕ) → Exactly (m-check m) (H-units < m)
-  -- 2: "A above 2^28"
+  -- code 2
   pub a : (a : ℕ) → Exactly (a-check a) (one < a)
-  -- 3: "depth not 1 to 5"
+  -- code 3
   pub depth : (d : ℕ) → Exactly (depth-check d) ((d < 1) ⊎ (depths < d))
-  -- 4: "estimate is not a number, infinite, below zero, or above T units"
+  -- code 4
   pub estimate : (x : Float) → Exactly (estimate-check x) (OffRange x)
-  -- 5: "N above 65,535"
+  -- code 5
   pub n : (n : ℕ) → Exactly (n-check n) (N-units < n)
-  -- 6: "T is not accepted as an upper end at this depth"
+  -- code 6
   pub top : (o : Orbit) (d : ℕ) → Exactly (T-check o d) (T (upperEnd o d T-units) → ⊥)
-  -- 7: "claims length no multiple of 20"
+  -- code 7
   pub claims-length : (bytes : ℕ) → Exactly (length-check twenty bytes) (bytes % 20 ≡ 0 → ⊥)
-  -- 8: "answers buffer shorter than the number of claims"
+  -- code 8
   pub answers-short : (bytes room : ℕ) → Exactly (answers-check twenty bytes room) (room < bytes / 20)
-  -- 9: "reserved byte of a claim not zero": the last of the record's 20
+  -- code 9: the last of the record's 20 bytes
   pub reserved : (claims : List ℕ) (start : ℕ)
       → Exactly (reserved-check twenty claims start) (getD claims (start + 19) 0 ≡ 0 → ⊥)
-  -- 10: "grid angle above T"
+  -- code 10
   pub x : (x : ℕ) → Exactly (x-check x) (T-units < x)

@@ -4,5 +4,6 @@ pub mod Demand1
 pub mod Rules
 pub mod Demand2
 pub mod Demand3
+pub mod Laws
 pub mod Starred
 pub mod Unique

@@ -1,11 +1,11 @@
--- How an entry that begins with checks refuses: the first demand of any such entry.
+-- How an entry that begins with checks refuses, R5 to R7: the first demand of any such entry.
 use mathlib.Core.Path.{_≡_}
 use mathlib.Core.Bool.{Bool, true, false, _&&_, cond}
 use mathlib.Core.List.{List, [], _∷_}
 use mathlib.Core.Logic.{_⊎_, _↔_}
-use Prim.Native.Nat.{ℕ, _≤_}
+use Prim.Native.Nat.{ℕ}
 use lib.Dec.{eqb}
-use Rattle.grid.specs.Codes.{Code, Check, number, first, Passed}
+use Rattle.grid.specs.Codes.{Code, Check, number, done, first, Passed}
 
 -- a check with the number k fails, and none before it does
 abbrev pub FirstFails : ℕ → List Check → Type 0
@@ -16,19 +16,18 @@ FirstFails k (c ∷ cs) =
 -- the answer r of an entry with these checks, where `code` is the answer's code and `zeros k` the answer of code k whose
 -- other numbers are all 0
 pub record Refuses {A : Type 0} (checks : List Check) (code : A → ℕ) (zeros : ℕ → A) (r : A) : Type 0 where
-  -- the code is that of the first check that fails
+  -- R6: the code is that of the first check that fails
   pub named : code r ≡ number (first checks)
-  -- "Mean anomaly, eccentricity, depth, estimate, tolerance or buffer outside its limit gets its own code, in a set order":
-  -- a code is answered exactly when its check fails and none before it does
-  pub coded : (k : ℕ) → 1 ≤ k → code r ≡ k ↔ FirstFails k checks
-  -- and 0 exactly when no check fails
-  pub done : code r ≡ 0 ↔ Passed checks
-  -- "the returned numbers are then zero"
-  pub others : (code r ≡ 0 → ⊥) → r ≡ zeros (code r)
+  -- R5: a code is answered exactly when its check fails and none before it does
+  pub coded : (k : ℕ) → (k ≡ number done → ⊥) → code r ≡ k ↔ FirstFails k checks
+  -- R5: and `done` exactly when no check fails
+  pub passed : code r ≡ number done ↔ Passed checks
+  -- R7: the other numbers are then zero
+  pub others : (code r ≡ number done → ⊥) → r ≡ zeros (code r)
 
--- ---- "its own code, in a set order"
+-- ---- the order, and that a code is its own
 
--- whether the checks have their codes in the order of a list of codes
+-- R6: whether the checks have their codes in the order of a list of codes
 abbrev pub inOrder : List Code → List Check → Bool
 inOrder ks [] = true
 inOrder [] (c ∷ cs) = false
@@ -39,7 +38,7 @@ abbrev pub among : ℕ → List Code → Bool
 among n [] = false
 among n (k ∷ ks) = cond (eqb n (number k)) true (among n ks)
 
--- whether no two codes of a list have one number
+-- R5: whether no two codes of a list have one number
 abbrev pub distinct : List Code → Bool
 distinct [] = true
 distinct (k ∷ ks) = cond (among (number k) ks) false (distinct ks)

@@ -1,10 +1,12 @@
--- "Show for each that any two results allowed for one input are equal". What a public entry's contract allows is written here
--- as in the contract; of the batch, what it returns and the answers buffer that it leaves, together.
+-- Any two results that a contract allows for one input are equal, R55. What a contract allows is written here as the contract
+-- has it; of the batch and the program's function, what is returned and the answers buffer that is left, together.
 use mathlib.Core.Path.{_≡_}
 use mathlib.Core.List.{List}
-use Prim.Native.Nat.{ℕ}
+use Prim.Native.Nat.{ℕ, _+_, _-_, min}
+use lib.IntN.{ℤ}
 use lib.Ieee.{Float}
 use lib.ListN.{length}
+use Rattle.grid.specs.Grid.{T-units}
 use Rattle.grid.specs.Make.{angleOf, eccentricityOf, depthOf}
 use Rattle.grid.specs.declared.AngleOr.{AngleOr}
 use Rattle.grid.specs.declared.EccentricityOr.{EccentricityOr}
@@ -17,29 +19,37 @@ use Rattle.ends.specs.declared.QuestionOr.{QuestionOr}
 use Rattle.ends.specs.declared.End.{End}
 use Rattle.enclosure.specs.Enclosure.{enclosureRule}
 use Rattle.enclosure.specs.declared.Enclosure.{Enclosure}
+use Rattle.rotations.specs.Rotate.{brought}
 use Rattle.proposal.specs.Propose.{proposalRule}
 use Rattle.proposal.specs.declared.Proposal.{Proposal}
 use Rattle.units.specs.Units.{unitsOf}
 use Rattle.units.specs.declared.UnitsOr.{UnitsOr}
+use Rattle.judge.specs.Verdict.{verdictNumber}
 use Rattle.judge.specs.Judge.{judgeRule}
 use Rattle.judge.specs.declared.Claim.{Claim}
 use Rattle.judge.specs.declared.Judged.{Judged}
+use Rattle.judge.specs.declared.Verdict.{Verdict}
 use Rattle.claims.specs.Record.{twenty}
 use Rattle.claims.specs.Batch.{batchRule, answersAfter}
 use Rattle.claims.specs.declared.Batch.{Batch}
+use Rattle.claim_file.specs.File.{output, outputIn}
 
 -- any two results that a contract allows are equal
 abbrev pub OneResult : {A : Type 0} → (A → Type 0) → Type 0
 OneResult {A} Allowed = (r s : A) → Allowed r → Allowed s → r ≡ s
 
--- a batch's result, and the answers buffer after it
-pub record Left : Type 0 where
-  pub result : Batch
+-- a result, and the answers buffer after it
+pub record Left (A : Type 0) : Type 0 where
+  pub result : A
   pub answers : List ℕ
 
-pub record BatchAllows (claims before : List ℕ) (l : Left) : Type 0 where
+pub record BatchAllows (claims before : List ℕ) (l : Left Batch) : Type 0 where
   pub result : l .result ≡ batchRule twenty (length claims) (length before)
   pub answers : l .answers ≡ answersAfter twenty claims before
+
+pub record FileAllows (input before : List ℕ) (l : Left ℕ) : Type 0 where
+  pub result : l .result ≡ length (output input)
+  pub answers : l .answers ≡ outputIn input before
 
 pub record Unique : Type 0 where
   pub sine : (x depth : ℕ) → OneResult (λ (r : SineBounds). r ≡ sineRule x depth)
@@ -56,3 +66,9 @@ pub record Unique : Type 0 where
   pub orbit : (m a : ℕ) → OneResult (λ (r : OrbitOr). r ≡ orbitOf m a)
   pub question : (x m a depth : ℕ) → OneResult (λ (r : QuestionOr). r ≡ questionOf x m a depth)
   pub in-units : (estimate : Float) → OneResult (λ (r : UnitsOr). r ≡ unitsOf estimate)
+  -- the functions that crates share: the program's, the clamps into 0 to T, and a verdict's number
+  pub answer-file : (input before : List ℕ) → OneResult (FileAllows input before)
+  pub lowered : (x n : ℕ) → OneResult (λ (r : ℕ). r ≡ x - n)
+  pub raised : (x n : ℕ) → OneResult (λ (r : ℕ). r ≡ min (x + n) T-units)
+  pub bring : (e : ℤ) → OneResult (λ (r : ℕ). r ≡ brought e)
+  pub number-of : (v : Verdict) → OneResult (λ (r : ℕ). r ≡ verdictNumber v)

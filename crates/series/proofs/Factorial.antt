@@ -4,11 +4,8 @@ use Prim.Native.Nat.{ℕ, zero, suc, _+_, _*_, _^_}
 use native.Mathlib.Omega.{arith}
 use native.Mathlib.Nat.{pow-zero, pow-suc}
 use Rattle.series.specs.Exact.{num, ratio, den}
+use Rattle.series.specs.Factorial.{factorial}
 use Rattle.series.specs.Sine.{sine}
-
-unfoldable pub factorial : ℕ → ℕ
-factorial zero = 1
-factorial (suc n) = suc n * factorial n
 
 -- 2^28 t_n is X^(2n+1) / den n, and den n is (2^56)^n (2n+1)!
 pub den-is : (n : ℕ) → den sine n ≡ 72057594037927936 ^ n * factorial (2 * n + 1)

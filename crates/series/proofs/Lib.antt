@@ -15,3 +15,4 @@ pub mod True
 pub mod Truth
 pub mod Walking
 pub mod Width
+pub mod Zero

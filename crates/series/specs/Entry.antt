@@ -2,7 +2,7 @@
 use Prim.Native.Nat.{ℕ}
 use mathlib.Core.List.{[], _∷_}
 use lib.IntN.{pos}
-use Rattle.grid.specs.Codes.{answer, depth-check, x-check}
+use Rattle.grid.specs.Codes.{number, done, answer, depth-check, x-check}
 use Rattle.series.specs.Sine.{Lo, Hi}
 use Rattle.series.specs.declared.SineBounds.{SineBounds}
 
@@ -10,4 +10,4 @@ use Rattle.series.specs.declared.SineBounds.{SineBounds}
 unfoldable pub sineRule : ℕ → ℕ → SineBounds
 sineRule x d =
     answer (depth-check d ∷ x-check x ∷ []) (λ code. record { code = code; lo = pos 0; hi = pos 0 })
-    (record { code = 0; lo = Lo x d; hi = Hi x d })
+    (record { code = number done; lo = Lo x d; hi = Hi x d })

@@ -7,7 +7,7 @@ use native.Mathlib.Nat.{lt-irrefl, lt-of-le-of-lt, mul-pos, mul-one, zero-mul, m
 use native.Mathlib.Omega.{arith}
 use lib.Dec.{T, leb, ltb, eqb, leb→le, eqb→eq, lit<}
 use lib.IntN.{ℤ, pos, negsuc}
-use borrow.Author.Tests.{lt-ltb, le-ltb, le-leb, leb-false}
+use borrow.Author.Tests.{lt-ltb, le-ltb, le-leb, leb-false, ltb-false}
 use lib.Ieee.{Float, nan, inf, fin, binary64, unlike, up, down, round, mul, lt, le, ofInt, toUnsigned, fits}
 use lib.Ieee.Positive.{num, den, den-pos}
 use lib.Ieee.Fits.{down-pos, up-pos, and-l}
@@ -15,7 +15,8 @@ use lib.Ieee.Exact.{HasValue}
 use Rattle.grid.specs.Grid.{one, T-units}
 use Rattle.grid.specs.Codes.{or}
 use Rattle.units.specs.Units.{product, offRange}
-use Rattle.units.proofs.Value.{Value, le-value, lt-value, above-minus-one, floor-value}
+use Rattle.units.specs.Exact.{radian, Value}
+use Rattle.units.proofs.Value.{le-value, lt-value, above-minus-one, floor-value}
 use Rattle.units.proofs.Scaled.{times-power, whole-exact}
 
 -- the doubles that the code names: 0, T units in radians, and the units in one radian
@@ -24,9 +25,6 @@ none = fin false 0 (pos 0)
 
 abbrev pub limit : Float
 limit = fin false 105414365 (negsuc 24)
-
-abbrev pub radian : Float
-radian = fin false 1 (pos 28)
 
 -- an estimate in range
 pub record Within (x : Float) : Type 0 where
@@ -83,6 +81,17 @@ in-range (inf s) w = absurd (w .value)
 in-range (fin false m e) w = le-ltb (T-units * down e) (one * (m * up e)) (w .small)
 in-range (fin true zero e) w = le-ltb (T-units * down e) (one * (0 * up e)) (w .small)
 in-range (fin true (suc m) e) w = absurd (let z = w .value .0 tt in let k : ⊥ = omega arith in k)
+
+-- an estimate whose check passes is in range
+pub passed-within : (x : Float) → offRange x ≡ false → Within x
+unfolding offRange
+passed-within nan h = absurd (true≢false h)
+passed-within (inf s) h = absurd (true≢false h)
+passed-within (fin false m e) h =
+    record { value = own false m e (λ (t : ⊥). absurd t); small = ltb-false (T-units * down e) (one * (m * up e)) h }
+passed-within (fin true zero e) h =
+    record { value = own true 0 e (λ t. refl); small = ltb-false (T-units * down e) (one * (0 * up e)) h }
+passed-within (fin true (suc m) e) h = absurd (true≢false (simp (lt-ltb 0 (suc m) (zero-lt-suc m)) at h))
 
 -- a test failed
 or-right : (a b : Bool) → b ≡ true → or a b ≡ true

@@ -1,6 +1,5 @@
 -- f and c are the floor and the ceiling of the product, they differ by one at most, and neither is above T. Assumes nothing.
 use mathlib.Core.Path.{_≡_, refl, subst}
-use mathlib.Core.Logic.{_↔_}
 use mathlib.Core.Bool.{Bool, true, false, _&&_, true≢false}
 use Prim.Native.Nat.{ℕ, _+_, _*_, _≤_, _<_}
 use native.Mathlib.Nat.{le-of-eq, le-antisymm}
@@ -16,22 +15,12 @@ use Rattle.whole.proofs.Round.{down-le, lt-down, le-up, up-lt, up-le, down-le-u
 use Rattle.grid.specs.Grid.{T-units}
 use Rattle.grid.specs.Codes.{or}
 use Rattle.units.specs.Units.{product, floorAndCeiling, offRange, estimate-check, unitsOf}
+use Rattle.units.specs.Exact.{Rounded}
 use Rattle.units.specs.declared.Units.{Units}
 use Rattle.units.specs.declared.UnitsOr.the-variants.{Made, Refused}
 use Rattle.grid.proofs.Made.{was-made, value-made}
 use Rattle.units.proofs.Enum.{unit-answers}
 use Rattle.whole.proofs.Round.{up-whole, up-le-next}
-
--- f and c are a / d rounded down and up, both are at most T, and they are equal exactly where the quotient is whole
-pub record Rounded (a d f c : ℕ) : Type 0 where
-  pub floor-least : f * d ≤ a
-  pub floor-most : a < (f + 1) * d
-  pub ceiling-least : a ≤ c * d
-  pub ceiling-most : c * d < a + d
-  pub ordered : f ≤ c
-  pub next : c ≤ f + 1
-  pub whole : c ≡ f ↔ a ≡ f * d
-  pub limit : c ≤ T-units
 
 or-last : (a b : Bool) → or a b ≡ false → b ≡ false
 or-last true b h = absurd (true≢false h)

@@ -13,11 +13,7 @@ use lib.Ieee.Fits.{down-pos, eq→eqb, and-l, and-i}
 use lib.Ieee.Nearest.{div-same}
 use lib.Ieee.Order.{transfer}
 use Rattle.whole.proofs.Bools.{alike}
-
-abbrev pub Value : Float → ℕ → ℕ → Type 0
-Value nan a c = ⊥
-Value (inf s) a c = ⊥
-Value (fin s m e) a c = (T s → m ≡ 0) × (m * up e * c ≡ a * down e)
+use Rattle.units.specs.Exact.{Value}
 
 -- ---- the order
 

@@ -7,7 +7,8 @@ use lib.Ieee.{Float, nan, inf, fin}
 use lib.Ieee.Positive.{num, den}
 use Rattle.whole.specs.Round.{down, up}
 use Rattle.grid.specs.Grid.{one, T-units}
-use Rattle.grid.specs.Codes.{Check, or, answer, estimate-off-range}
+use Rattle.grid.specs.Codes.{Check, number, done, or, answer, estimate-off-range}
+use Rattle.grid.specs.Said.{Said}
 use Rattle.units.specs.declared.Units.{Units}
 use Rattle.units.specs.declared.UnitsOr.{UnitsOr}
 use Rattle.units.specs.declared.UnitsOr.the-variants.{Made, Refused}
@@ -32,3 +33,8 @@ estimate-check x = record { fails = offRange x; code = estimate-off-range }
 -- f and c of an estimate, or code 4
 abbrev pub unitsOf : Float → UnitsOr
 unitsOf x = answer (estimate-check x ∷ []) Refused (Made (floorAndCeiling x))
+
+-- R55: the code and the value of each case
+abbrev pub unitsSays : UnitsOr → Said Units
+unitsSays (Made u) = record { code = number done; value = u }
+unitsSays (Refused code) = record { code = code; value = record { f = 0; c = 0 } }

@@ -4,7 +4,7 @@ use mathlib.Core.Path.{_≡_, sym, ap, _∙_, subst}
 use borrow.Author.Needs.{needs}
 use Rattle.grid.proofs.Made.{Given, was-made, value-made, was-refused}
 use Rattle.judge.specs.Verdict.{verdictNumber}
-use Rattle.judge.specs.Judge.{claimChecks, caseAt, caseVerdict, judgeRule}
+use Rattle.judge.specs.Judge.{claimChecks, caseAt, caseVerdict, verdict, judgeRule}
 use Rattle.judge.specs.Fair.{Tested}
 use Rattle.judge.specs.declared.Claim.{Claim}
 use Rattle.judge.specs.declared.Case.{Case}
@@ -52,17 +52,17 @@ returns c =
     let told = c .before .code .given in
     sym
     (was-refused case-answers (caseAt k) (claimChecks k) (n .checked .result) (told .0 .0) (n .checked .ensures) (told .1) .on
-    (λ code. record { code = code; verdict = 0 }) (record { code = 0; verdict = caseVerdict (caseAt k) }))
+    (λ code. record { code = code; verdict = 0 }) (verdict (caseVerdict (caseAt k))))
 
 returns-2 : tie.Need-returns-2
 unfolding judgeRule
 returns-2 c =
     let at = c .before .before .before in
     let k = claim at in
-    let v : c .number-of .result ≡ caseVerdict (caseAt k) =
-    c .number-of .ensures ∙ ap verdictNumber (c .before .decide .ensures) ∙ ap caseVerdict (case-is at) in
+    let v : c .number-of .result ≡ verdictNumber (caseVerdict (caseAt k)) =
+    c .number-of .ensures ∙ ap verdictNumber (c .before .decide .ensures ∙ ap caseVerdict (case-is at)) in
     simp v
-    (sym (all-given at .on (λ code. record { code = code; verdict = 0 }) (record { code = 0; verdict = caseVerdict (caseAt k) })))
+    (sym (all-given at .on (λ code. record { code = code; verdict = 0 }) (verdict (caseVerdict (caseAt k)))))
 
 pub judge-spec : {M : Type 1} → statement M
 judge-spec =

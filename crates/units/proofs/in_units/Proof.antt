@@ -11,8 +11,9 @@ use lib.Ieee.{Float, binary64, ofBits, fits, inFloat, mul, ofInt, lt}
 use lib.Ieee.Positive.{den, den-pos}
 use Rattle.whole.specs.Round.{down, up}
 use Rattle.units.specs.Units.{product, offRange, unitsOf}
+use Rattle.units.specs.Exact.{radian}
 use Rattle.units.specs.declared.UnitsOr.the-variants.{Made, Refused}
-use Rattle.units.proofs.Estimate.{Within, radian, within, in-range, off-low, off-high, floor-limit, floor-asks, floor-is, test-is}
+use Rattle.units.proofs.Estimate.{Within, within, in-range, off-low, off-high, floor-limit, floor-asks, floor-is, test-is}
 use Rattle.whole.proofs.Round.{up-whole, up-next}
 use Rattle.units.proofs.in_units.Statement.{statement}
 use Rattle.units.proofs.in_units.Tie as tie

@@ -1,0 +1,30 @@
+-- What is exact about an estimate in units, R41: the product, and its floor and ceiling.
+use mathlib.Core.Path.{_≡_}
+use mathlib.Core.Logic.{_↔_}
+use Prim.Native.Nat.{ℕ, _+_, _*_, _≤_, _<_}
+use lib.Dec.{T}
+use lib.IntN.{pos}
+use lib.Ieee.{Float, nan, inf, fin, up, down}
+use mathlib.Core.Bool.{false}
+use Rattle.grid.specs.Grid.{T-units}
+
+-- the units in one radian, 2^28, as a double
+abbrev pub radian : Float
+radian = fin false 1 (pos 28)
+
+-- the double x is a / c, and not below zero: `fin s m e` is m 2^e, and up e / down e is 2^e
+abbrev pub Value : Float → ℕ → ℕ → Type 0
+Value nan a c = ⊥
+Value (inf s) a c = ⊥
+Value (fin s m e) a c = (T s → m ≡ 0) × (m * up e * c ≡ a * down e)
+
+-- R41: f and c are a / d rounded down and up; they are equal exactly where the quotient is whole, and neither is above T
+pub record Rounded (a d f c : ℕ) : Type 0 where
+  pub floor-least : f * d ≤ a
+  pub floor-most : a < (f + 1) * d
+  pub ceiling-least : a ≤ c * d
+  pub ceiling-most : c * d < a + d
+  pub ordered : f ≤ c
+  pub next : c ≤ f + 1
+  pub whole : c ≡ f ↔ a ≡ f * d
+  pub limit : c ≤ T-units
