@@ -1,7 +1,7 @@
--- The bytes that can answer a record: the section "Claim records".
+-- The numbers that an answer byte can be, R50.
 use Prim.Native.Nat.{ℕ}
 
--- "16 Confirmed, 17 Refuted, 18 Undecided, or the record's code 9, 1, 2, 3 or 4"
+-- R50: a verdict's number, or a record's code; never 5, as two bytes hold no greater N than the limit
 pub data Answer : ℕ → Type 0 where
   confirmed : Answer 16
   refuted : Answer 17
