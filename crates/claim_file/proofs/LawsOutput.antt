@@ -1,4 +1,4 @@
--- What the program writes, case by case. Assumes nothing.
+-- R53: what the program writes, case by case. Assumes nothing.
 use mathlib.Core.Path.{_≡_, sym, ap, _∙_}
 use mathlib.Core.List.{List, []}
 use Prim.Native.Nat.{ℕ, _%_, _/_, _≤_, _<_}
@@ -15,17 +15,17 @@ module _ (input : List ℕ) where
   abbrev answers : Batch → List ℕ
   answers r = upTo (answerAt twenty input) (r .count)
 
-  -- "for longer input .. it writes nothing"
+  -- R53: no byte for an input that is too long
   pub longer : most-bytes < length input → output input ≡ []
   unfolding output
   longer h = rw (lt-ltb _ _ h)
 
-  -- "or code 7"
+  -- R53: none for one whose last record is cut off
   pub cut : length input ≤ most-bytes → (length input % twenty .width ≡ 0 → ⊥) → output input ≡ []
   unfolding output upTo
   cut h e = rw (le-ltb _ _ h) (ap answers (sym (rule-length twenty (length input) most-claims e)))
 
-  -- "exactly the answer bytes": one for each claim, since there is room for all
+  -- R53: else the answer bytes and no more: one for each claim, since there is room for all
   pub whole : length input ≤ most-bytes → length input % twenty .width ≡ 0
       → output input ≡ upTo (answerAt twenty input) (length input / twenty .width)
   unfolding output

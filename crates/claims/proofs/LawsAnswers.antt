@@ -1,4 +1,5 @@
--- What a batch's contract says byte by byte: below the count the record's answer, from the count on what was there. Assumes nothing.
+-- What a batch's contract says byte by byte: below the count the record's answer byte, from the count on what was there.
+-- Assumes nothing.
 use mathlib.Core.Path.{_≡_, refl, sym, ap, _∙_}
 use mathlib.Core.Bool.{Bool, true, false}
 use mathlib.Core.Logic.{⊎-elim}
@@ -43,14 +44,14 @@ module _ (form : Form) (claims before : List ℕ) (n : ℕ) where
       ∙ ap (λ (j : ℕ). getD before j 0) back
 
 module _ (form : Form) (bytes room : ℕ) where
-  -- "It returns code 0 and the count": no byte of the claims is left over
+  -- R51: with code 0 every claim is counted, and no byte of the claims is left over
   pub done-count : batchRule form bytes room .code ≡ 0 → batchRule form bytes room .count * form .width ≡ bytes
   done-count =
       of-batch form bytes room (λ (r : Batch). r .code ≡ 0 → r .count * form .width ≡ bytes)
       (λ z. absurd (let k : ⊥ = omega arith in k)) (λ z. absurd (let k : ⊥ = omega arith in k))
       (λ e h z. omega (arith, div-add-mod' bytes (form .width)))
 
-  -- "With a code other than 0, all other returned numbers are 0"
+  -- R7: beside a code the count is 0
   pub refused-count : (batchRule form bytes room .code ≡ 0 → ⊥) → batchRule form bytes room .count ≡ 0
   refused-count =
       of-batch form bytes room (λ (r : Batch). (r .code ≡ 0 → ⊥) → r .count ≡ 0) (λ z. refl) (λ z. refl)
@@ -64,19 +65,19 @@ module _ (form : Form) (claims before : List ℕ) where
   unfolding answersAfter
   length-kept = length-written form claims before counted (count-fits form (length claims) (length before))
 
-  -- "The batch writes one byte per claim"
+  -- R52: byte i, below the count, is the answer byte of record i
   pub byte-answered : (i : ℕ) → i < batchRule form (length claims) (length before) .count
       → getD (answersAfter form claims before) i 0 ≡ answerAt form claims i
   unfolding answersAfter
   byte-answered = written-below form claims before counted
 
-  -- "Answer bytes beyond the count stay"
+  -- R52: from the count on every byte is what it was
   pub byte-kept : (i : ℕ) → batchRule form (length claims) (length before) .count ≤ i
       → getD (answersAfter form claims before) i 0 ≡ getD before i 0
   unfolding answersAfter
   byte-kept = written-above form claims before counted
 
-  -- no other buffer is as long and has these bytes
+  -- R55: no other buffer is as long and has these bytes
   pub only-answers : (after : List ℕ) → length after ≡ length before
       → ((i : ℕ) → i < batchRule form (length claims) (length before) .count → getD after i 0 ≡ answerAt form claims i)
       → ((i : ℕ) → batchRule form (length claims) (length before) .count ≤ i → getD after i 0 ≡ getD before i 0)
@@ -88,7 +89,7 @@ module _ (form : Form) (claims before : List ℕ) where
       agree i true t = let k = ltb-true _ _ t in below i k ∙ sym (byte-answered i k)
       agree i false t = let k = ltb-false _ _ t in above i k ∙ sym (byte-kept i k)
 
-  -- "Codes 7 and 8 write nothing"
+  -- R7: beside a code the whole answers buffer is what it was
   pub refused-kept : (batchRule form (length claims) (length before) .code ≡ 0 → ⊥) → answersAfter form claims before ≡ before
   unfolding answersAfter
   refused-kept h =

@@ -1,10 +1,10 @@
--- The bytes that can answer a record: the section "Claim records".
+-- The numbers that an answer byte can be, R50.
 use Prim.Native.Nat.{ℕ}
 use Rattle.grid.specs.Codes.{number, reserved-not-zero, m-above-H, a-above-one, depth-not-1-to-5, estimate-off-range}
 use Rattle.judge.specs.Verdict.{verdictNumber}
 use Rattle.judge.specs.declared.Verdict.the-variants.{Confirmed, Refuted, Undecided}
 
--- "16 Confirmed, 17 Refuted, 18 Undecided, or the record's code 9, 1, 2, 3 or 4"
+-- R50: a verdict's number, or a record's code; never 5, as two bytes hold no greater N than the limit
 pub data Answer : ℕ → Type 0 where
   confirmed : Answer (verdictNumber Confirmed)
   refuted : Answer (verdictNumber Refuted)

@@ -1,4 +1,4 @@
--- The batch: its code and count, and the answers buffer as it leaves it. The sections "Claim records" and "Codes".
+-- The batch, R51 and R52: its code and count, and the answers buffer as it leaves it.
 use Prim.Native.Nat.{ℕ, zero, suc, _%_, _/_}
 use mathlib.Core.Bool.{not}
 use mathlib.Core.List.{List, [], _∷_, _++_}
@@ -8,31 +8,31 @@ use Rattle.grid.specs.Codes.{Check, number, done, answer, claims-length, answer
 use Rattle.claims.specs.Record.{Form, answerAt}
 use Rattle.claims.specs.declared.Batch.{Batch}
 
--- "claims length no multiple of 20"
+-- R5: code 7, a last record that is cut off
 abbrev pub length-check : Form → ℕ → Check
 length-check form bytes = record { fails = not (eqb (bytes % form .width) 0); code = claims-length }
 
--- "answers buffer shorter than the number of claims"
+-- R5: code 8, more claims than places for their answers
 abbrev pub answers-check : Form → ℕ → ℕ → Check
 answers-check form bytes room = record { fails = ltb room (bytes / form .width); code = answers-short }
 
--- what the batch returns for claims of so many bytes and an answers buffer of so many: "For the batch, 7 and then 8 come before any
--- record is read. With a code other than 0, all other returned numbers are 0"; else "It returns code 0 and the count"
+-- R51: what the batch returns for claims of so many bytes and an answers buffer of so many: codes 7 and 8 in that order, by
+-- the lengths alone (R6), else the count; R7: a zero beside a code
 unfoldable pub batchRule : Form → ℕ → ℕ → Batch
 batchRule form bytes room =
     answer (length-check form bytes ∷ answers-check form bytes room ∷ [])
     (λ (code : ℕ). record { code = code; count = 0 }) (record { code = number done; count = bytes / form .width })
 
--- f 0, f 1, .., n of them
+-- R52: f 0, f 1, .., n of them
 unfoldable pub upTo : (ℕ → ℕ) → ℕ → List ℕ
 upTo f zero = []
 upTo f (suc n) = upTo f n ++ (f n ∷ [])
 
--- "one byte per claim", and "Answer bytes beyond the count stay": after n answers
+-- R52: the answers buffer after n answers: below n the answer bytes, from n on what was there
 abbrev pub written : Form → List ℕ → ℕ → List ℕ → List ℕ
 written form claims n before = upTo (answerAt form claims) n ++ drop n before
 
--- the answers buffer after the batch; as the count is 0 with a code, "Codes 7 and 8 write nothing"
+-- R52: the answers buffer after the batch; R7: as the count is 0 beside a code, nothing is written then
 unfoldable pub answersAfter : Form → List ℕ → List ℕ → List ℕ
 unfolding batchRule
 answersAfter form claims before =

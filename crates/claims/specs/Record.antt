@@ -1,4 +1,4 @@
--- A claim's record and the byte that answers it: the section "Claim records".
+-- A claim's record and its answer byte, R49 and R50.
 use Prim.Native.Nat.{ℕ, _+_, _*_}
 use mathlib.Core.Bool.{not, cond}
 use mathlib.Core.List.{List, [], _∷_}
@@ -10,12 +10,12 @@ use Rattle.judge.specs.declared.Claim.{Claim}
 use Rattle.judge.specs.declared.Judged.{Judged}
 use Rattle.claims.specs.LittleEndian.{littleEndian}
 
--- where a field stands in its record, and how many bytes it has
+-- R49: where a field stands in its record, and how many bytes it has
 pub record Field : Type 0 where
   pub at : ℕ
   pub bytes : ℕ
 
--- a record's width and its fields
+-- R49: a record's width and its fields
 pub record Form : Type 0 where
   pub width : ℕ
   pub m : Field
@@ -25,7 +25,7 @@ pub record Form : Type 0 where
   pub depth : Field
   pub reserved : Field
 
--- "20 bytes, little-endian, no header: M (4), A (4), estimate bits (8), N (2), depth (1), reserved (1, zero)"
+-- R49: the record of 20 bytes
 abbrev pub twenty : Form
 twenty =
     record {
@@ -38,11 +38,11 @@ twenty =
       reserved = record { at = 19; bytes = 1 };
     }
 
--- a field of the record that starts at a place
+-- R49: a field of the record that starts at a place
 abbrev pub valueOf : List ℕ → ℕ → Field → ℕ
 valueOf bytes start f = littleEndian bytes (start + f .at) (f .bytes)
 
--- the claim of the record that starts at a place; every NaN pattern is the one NaN value
+-- R49: the claim of the record that starts at a place; to `ofBits` every NaN pattern is the one NaN
 abbrev pub claimFrom : Form → List ℕ → ℕ → Claim
 claimFrom form bytes start =
     record {
@@ -53,20 +53,20 @@ claimFrom form bytes start =
       depth = valueOf bytes start (form .depth);
     }
 
--- "reserved byte of a claim not zero"
+-- R5: code 9, a reserved byte other than zero
 abbrev pub reserved-check : Form → List ℕ → ℕ → Check
 reserved-check form bytes start =
     record { fails = not (eqb (valueOf bytes start (form .reserved)) 0); code = reserved-not-zero }
 
--- "16 Confirmed, 17 Refuted, 18 Undecided, or the record's code": the code where there is one, else the verdict's number
+-- R50: the code where there is one, else the verdict's number
 abbrev pub byteOf : Judged → ℕ
 byteOf j = cond (eqb (j .code) (number done)) (j .verdict) (j .code)
 
--- record i is the one that starts at i times the width
+-- R49: record i is the one that starts at i times the width
 abbrev pub claimAt : Form → List ℕ → ℕ → Claim
 claimAt form bytes i = claimFrom form bytes (i * form .width)
 
--- "The batch writes one byte per claim": that of record i, where code 9 comes first
+-- R50: the answer byte of record i; code 9 comes before the codes of its claim
 unfoldable pub answerAt : Form → List ℕ → ℕ → ℕ
 answerAt form bytes i =
     answer (reserved-check form bytes (i * form .width) ∷ []) (λ (code : ℕ). code)

@@ -1,4 +1,4 @@
-// One claim record: 20 bytes, little-endian, no header.
+// R49: one claim record and where its fields stand; R50: its answer byte.
 ghost use mathlib.Core.Path.{_≡_};
 ghost use Prim.Native.Nat.{_+_, _*_, _≤_};
 ghost use lib.ListN.{length};
@@ -58,7 +58,7 @@ fn read_claim(claims: &[u8], at: usize) -> Claim
     }
 }
 
-// The byte that answers record i.
+// R50: the answer byte of record i.
 pub fn answer(claims: &[u8], i: usize) -> u8
     requires { ⌜ i * twenty .width + twenty .width ≤ length (now claims) ⌝ }
     ensures { λ r. ⌜ r ≡ answerAt twenty (now (claims .entry)) i ⌝ }

@@ -16,13 +16,13 @@ use Rattle.enclosure.specs.Halving.{whole, lastBracket}
 use Rattle.enclosure.specs.Enclosure.{lowerAnswer, upperAnswer}
 use Rattle.enclosure.proofs.Halving.{Found, found, less-accepts}
 
--- a is accepted as lower end, a + 1 is not
+-- R29: a is accepted as lower end, a + 1 is not
 pub record LowerFound (o : Orbit) (d a : ℕ) : Type 0 where
   pub accepted : T (lowerEnd o d a)
   pub next : T (not (lowerEnd o d (suc a)))
   pub within : a < T-units
 
--- b is accepted as upper end, b - 1 is not, "unless b = 0"
+-- R29: b is accepted as upper end, and b - 1, where there is one, is not
 pub record UpperFound (o : Orbit) (d b : ℕ) : Type 0 where
   pub accepted : T (upperEnd o d b)
   pub next : (b ≡ 0) ⊎ T (not (upperEnd o d (b - 1)))

@@ -60,7 +60,7 @@ unfolding turns
 enough acc zero b h = narrow-still acc b h
 enough acc (suc n) b h = enough acc n (halve acc b) (halve-width acc b n h)
 
--- "While q - p > 1": after n turns it is so no more
+-- R25: after n turns q - p is above 1 no more
 pub ended : (acc : ℕ → Bool) (n : ℕ) (b : Bracket) → width b ≤ 2 ^ n → width (turns acc n b) ≤ 1
 unfolding turns
 ended acc zero b h = h
@@ -87,7 +87,7 @@ turns-inside acc n b h =
     turns-keep (λ (c : Bracket). Inside b c) acc (halve-inside acc b) n b
     (record { low = omega arith; order = h; high = omega arith })
 
--- "keep p accepted .. and q not"
+-- R26, R27: every turn leaves p passing the test and q failing it
 pub record Kept (acc : ℕ → Bool) (b : Bracket) : Type 0 where
   pub accepted : T (acc (b .p))
   pub refused : T (not (acc (b .q)))

@@ -30,7 +30,7 @@ is-yes false y = absurd y
 -- ---- which code is given
 
 module _ (m a d : ℕ) (m-in : m ≤ H-units) (a-in : a ≤ one) (some : 1 ≤ d) (few : d ≤ depths) where
-  -- on the grid code 6 is given exactly where T is not accepted as an upper end, and no code where it is
+  -- R28: on the grid code 6 is given exactly where T is not accepted as an upper end, and no code where it is
   pub top-refused : T (not (upperEnd (orbitAt m a) d T-units)) → enclosureRule m a d ≡ refusal 6
   top-refused t =
       simp (le-ltb H-units m m-in, le-ltb one a a-in, le-ltb d 1 some, le-ltb depths d few, is-yes (T-check (orbitAt m a) d .fails) t)
@@ -85,7 +85,7 @@ code-zero m a d h =
     (ap (λ (e : Enclosure). e .code) (sym (p .rest)) ∙ h) in
     record { checks = p; top = is-accepted (upperEnd (orbitAt m a) d T-units) t; ends = p .rest ∙ e }
 
--- "Depths 4 and 5 never answer 6"
+-- R28: no code 6 from depth 4 on
 pub never-six : (m a d : ℕ) → 4 ≤ d → enclosureRule m a d .code ≡ 6 → ⊥
 never-six m a d h six =
     let p = passed m a d 6 (λ k l r e. omega arith) six in
@@ -95,7 +95,7 @@ never-six m a d h six =
     (λ n e. T-not (upperEnd (orbitAt m a) d T-units) n t) (λ n e. omega arith)
     (ap (λ (e : Enclosure). e .code) (sym (p .rest)) ∙ six)
 
--- "a + 1 is not accepted as lower end, nor b - 1 as upper end unless b = 0"; a and b are accepted, and a is not above b
+-- R29: both ends are accepted, one unit further in neither is, and a is not above b
 pub record Encloses (o : Orbit) (d : ℕ) (e : Enclosure) : Type 0 where
   pub lower : LowerFound o d (e .a)
   pub upper : UpperFound o d (e .b)
@@ -118,7 +118,7 @@ encloses m a d h =
           (u .accepted);
     })
 
--- "a deeper enclosure lies within a shallower one", where both are given
+-- R30: a does not fall and b does not rise as the depth grows, where both are given
 pub deeper-within : (m a d e : ℕ) → d ≤ e → enclosureRule m a d .code ≡ 0 → enclosureRule m a e .code ≡ 0
     → (enclosureRule m a d .a ≤ enclosureRule m a e .a) × (enclosureRule m a e .b ≤ enclosureRule m a d .b)
 deeper-within m a d e h s t =
@@ -133,7 +133,7 @@ deeper-given m a d e h few s =
     ap (λ (x : Enclosure). x .code)
     (top-accepted m a e (c .m-in) (c .a-in) (omega arith) few (upper-deeper (orbitAt m a) T-units h (g .top)))
 
--- ---- a circle: A = 0
+-- ---- R32: a circle, A = 0
 
 module _ (m d : ℕ) (h : m ≤ H-units) where
   circle-a : d ≤ depths → lowerAnswer (orbitAt m 0) d ≡ m
@@ -162,6 +162,6 @@ module _ (m d : ℕ) (h : m ≤ H-units) where
       omega arith)
       (f .next)
 
-  -- "A = 0: a = b = M for every M and depth"
+  -- R32: of a circle both ends are M
   pub circle : 1 ≤ d → d ≤ depths → enclosureRule m 0 d ≡ record { code = 0; a = m; b = m }
   circle l r = top-accepted m 0 d h (omega arith) l r circle-top ∙ simp (circle-a r, circle-b)

@@ -1,4 +1,4 @@
--- No lower end lies above an upper end, for e up to 1: x - S_9(x) rises with x, and S_9 is below S_10. Assumes nothing.
+-- R21: ends in order, for e up to 1: x - S_9(x) rises with x, and S_9 is below S_10. Assumes nothing.
 use mathlib.Core.Path.{_≡_, ap}
 use Prim.Native.Nat.{ℕ, _+_, _-_, _*_, _≤_, _<_}
 use native.Mathlib.Omega.{arith}
@@ -40,7 +40,7 @@ exact-apart o X Y e w p q = nltb→le Y X (not-T (ltb Y X) (λ t. clash (ltb→l
         gap one (o .a) (one - o .a) den9 X Y (o .m) (same sine X 9) (other sine X 9) (same sine Y 9) (other sine Y 9)
         (omega arith) (omega arith) (den-pos sine sine-divides 9) above (sine-rises Y X above w) (lower-exact o X .0 p) last
 
--- at any depths, equal or not
+-- R21: at any depths, equal or not
 pub apart : (o : Orbit) (X Y d e : ℕ) → o .a ≤ one → X ≤ T-units → Y ≤ T-units → d ≤ depths → e ≤ depths
     → T (lowerEnd o d X) → T (upperEnd o e Y) → X ≤ Y
 apart o X Y d e small x y i j p q =

@@ -1,4 +1,4 @@
--- The tests as the code makes them, on the raised bounds of a walk, are the page's tests; and the other bound on the wrong
+-- The tests as the code makes them, on the raised bounds of a walk, are those of R17 and R18; and the other bound on the wrong
 -- side rules out every depth. Assumes nothing.
 use mathlib.Core.Path.{_≡_, refl, sym, ap, _∙_, subst}
 use mathlib.Core.Bool.{Bool, true, false}
@@ -86,7 +86,7 @@ module _ (o : Orbit) (s : Walk) (g : Stage o s) where
       (le-parts (own (Lo (s .x) (s .pairs))) (own (Hi (s .x) d)) .0 (Lo-le-Hi (s .x) (s .pairs) d (g .angle) (g .few) few)) in
       fails (upperEnd o d (s .x)) (λ t. let p = upper-test o (s .x) d .0 t in omega arith)
 
--- what one depth accepts every greater one does, at either end
+-- R22: what one depth accepts every greater one does, at either end
 pub deeper : (above : Bool) (o : Orbit) (X : ℕ) {d e : ℕ} → d ≤ e → true ≡ endAt above o d X → true ≡ endAt above o e X
 deeper true o X {d} h p = passes _ (upper-deeper o X h (passed (upperEnd o d X) p))
 deeper false o X {d} h p = passes _ (lower-deeper o X h (passed (lowerEnd o d X) p))

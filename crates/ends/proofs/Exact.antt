@@ -1,5 +1,4 @@
--- What acceptance says: the exact inequality at any depth; at depth 5 refusal only where less than 32e units are to spare; and
--- a deeper test accepts no less. Assumes nothing.
+-- R19, R20 and R22: what acceptance says, what refusal says at depth 5, and that a deeper test accepts no less. Assumes nothing.
 use Prim.Native.Nat.{ℕ, _+_, _*_, _≤_}
 use native.Mathlib.Omega.{arith}
 use native.Mathlib.Nat.{mul-le-mul-right}
@@ -54,14 +53,14 @@ module _ (X : ℕ) (within : X ≤ T-units) where
 -- ---- both ends
 
 module _ (o : Orbit) (X : ℕ) where
-  -- "An accepted lower end X meets X - M <= e times the degree-19 Taylor sum of sine at X"
+  -- R19: of a lower end, at any depth
   pub lower-true : X ≤ T-units → (d : ℕ) → d ≤ depths → T (lowerEnd o d X) → LowerExact o X
   lower-true w d j t =
       lower-exact o X .1
       (accept (one * X) (one * o .m) (o .a) den9 (other sine X 9) (same sine X 9) (plus (Lo X d)) (minus (Lo X d))
       (low-truth X w d j) (lower-test o X d .0 t))
 
-  -- "an upper end meets X - M >= e times the degree-21 sum"
+  -- R19: of an upper end, at any depth
   pub upper-true : X ≤ T-units → (d : ℕ) → d ≤ depths → T (upperEnd o d X) → UpperExact o X
   upper-true w d j t =
       let h = high-truth X w d j in
@@ -69,7 +68,7 @@ module _ (o : Orbit) (X : ℕ) where
       (accept (one * o .m) (one * X) (o .a) den10 (other sine X 10) (same sine X 10) (minus (Hi X d)) (plus (Hi X d))
       (omega arith) (upper-test o X d .0 t))
 
-  -- "At depth 5 acceptance fails only where the exact inequality has less than 32e units to spare"
+  -- R20: where 32 e units are to spare depth 5 accepts
   pub lower-spare : X ≤ T-units → LowerSpare o X → T (lowerEnd o depths X)
   lower-spare w s =
       lower-test o X depths .1
@@ -82,7 +81,7 @@ module _ (o : Orbit) (X : ℕ) where
       (refuse (one * o .m) (one * X) (o .a) 32 den10 (other sine X 10) (same sine X 10) (minus (Hi X depths)) (plus (Hi X depths))
       (den-pos sine sine-divides 10) (high-near X w) (upper-spares o X s))
 
-  -- accepted at a depth is accepted at every greater one
+  -- R22: accepted at a depth is accepted at every greater one
   pub lower-deeper : {d e : ℕ} → d ≤ e → T (lowerEnd o d X) → T (lowerEnd o e X)
   lower-deeper {d} {e} h t =
       lower-test o X e .1

@@ -40,7 +40,7 @@ sum-at-T : S9 T-units ≤ℤ pos 0
 unfolding S num ratio
 sum-at-T = record { le = tt }
 
--- ---- "At 0 acceptance always holds, at T never"
+-- ---- R23: as lower end 0 is always accepted, T never
 
 pub zero-lower : (o : Orbit) (d : ℕ) → T (lowerEnd o d 0)
 zero-lower o d =
@@ -59,14 +59,14 @@ T-never o d m j = not-T (lowerEnd o d T-units) clash
         (let n = le-parts (S9-parts T-units) (is-pos 0) .0 sum-at-T in omega arith) in
         omega (arith, den-pos sine sine-divides 9, mul-le-mul-left (o .a) k, mul-le-mul-right den9 m)
 
--- "Depths 4 and 5 never answer 6"
+-- R28: from depth 4 on T is an accepted upper end
 pub T-upper : (o : Orbit) (d : ℕ) → o .m ≤ T-units → 4 ≤ d → T (upperEnd o d T-units)
 T-upper o d m i =
     let n : plus (Hi T-units 4) ≤ minus (Hi T-units 4) =
     (let h = le-parts (own (Hi T-units 4)) (is-pos 0) .0 high-at-T in omega arith) in
     upper-deeper o T-units i (upper-test o T-units 4 .1 (omega (arith, mul-le-mul-left (o .a) n)))
 
--- ---- "A = 0: a = b = M": the tests compare X with M
+-- ---- R32: at A = 0 the tests compare X with M
 
 pub circle-lower : (o : Orbit) (d X : ℕ) → o .a ≡ 0 → T (lowerEnd o d X) ↔ X ≤ o .m
 circle-lower o d X e =

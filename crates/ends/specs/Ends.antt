@@ -1,4 +1,4 @@
--- The section "The two end tests".
+-- The two end tests, R17 and R18, of an orbit o at a depth d.
 use Prim.Native.Nat.{ℕ}
 use mathlib.Core.Bool.{Bool}
 use lib.IntN.{pos, _-ℤ_, _*ℤ_}
@@ -7,10 +7,10 @@ use Rattle.grid.specs.Grid.{one}
 use Rattle.series.specs.Sine.{Lo, Hi}
 use Rattle.ends.specs.declared.Orbit.{Orbit}
 
--- "X is an accepted lower end when 2^28 (X - M) <= A · Lo"
+-- R17: whether X is an accepted lower end, by Lo
 unfoldable pub lowerEnd : Orbit → ℕ → ℕ → Bool
 lowerEnd o d X = leZ (pos one *ℤ (pos X -ℤ pos (o .m))) (pos (o .a) *ℤ Lo X d)
 
--- "X is an accepted upper end when 2^28 (X - M) >= A · Hi"
+-- R18: whether X is an accepted upper end, by Hi
 unfoldable pub upperEnd : Orbit → ℕ → ℕ → Bool
 upperEnd o d X = leZ (pos (o .a) *ℤ Hi X d) (pos one *ℤ (pos X -ℤ pos (o .m)))

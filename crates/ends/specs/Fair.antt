@@ -10,7 +10,7 @@ use Rattle.series.specs.declared.Walk.{Walk}
 use Rattle.ends.specs.Ends.{lowerEnd, upperEnd}
 use Rattle.ends.specs.declared.Orbit.{Orbit}
 
--- the limits that the checked constructors see to
+-- R3: the limits that the checked constructors see to
 pub record Fair (o : Orbit) (x : Angle) (d : Depth) : Type 0 where
   pub m : o .m ≤ H-units
   pub a : o .a ≤ one
@@ -18,7 +18,7 @@ pub record Fair (o : Orbit) (x : Angle) (d : Depth) : Type 0 where
   pub some : 1 ≤ d .pairs
   pub few : d .pairs ≤ depths
 
--- the test of an end above the root or below it
+-- R17, R18: the test of an end above the root or below it
 abbrev pub endAt : Bool → Orbit → ℕ → ℕ → Bool
 endAt true = upperEnd
 endAt false = lowerEnd

@@ -1,22 +1,22 @@
--- The equation's grid: the section "The equation and its grid".
+-- The grid on which the user's numbers stand, R2 and R3: the unit and the greatest of each letter.
 use Prim.Native.Nat.{ℕ}
 
--- "One unit is 2^-28 radian": one radian is `one` units, and e = 1 is A = `one`
+-- R2, R3: one radian is `one` units, and e = 1 is A = `one`, the greatest A
 abbrev pub one : ℕ
 one = 268435456
 
--- "H = 843,314,856 is the largest M": M runs from 0 to H
+-- R3: H, the greatest M; the least is 0
 abbrev pub H-units : ℕ
 H-units = 843314856
 
--- "T = 843,314,920 = H + 64 is the largest angle X tested"
+-- R3: T, the greatest X, 64 units above H
 abbrev pub T-units : ℕ
 T-units = 843314920
 
--- "Depth d is 1 to 5"
+-- R3: the greatest depth; the least, 1, stands in `depth-check`
 abbrev pub depths : ℕ
 depths = 5
 
--- "Tolerance N is 0 to 65,535 units"
+-- R3: the greatest tolerance
 abbrev pub N-units : ℕ
 N-units = 65535

@@ -1,5 +1,4 @@
-// The code of each refusal. Order, as far as a call has that input: 9, 1, 2, 3, 10, 4, 5, 6;
-// for a batch 7 and then 8 come before any record is read.
+// R5: the code of each refusal. R6: of those that apply the first of 7, 8, 9, 1, 2, 3, 10, 4, 5, 6 is answered.
 pub const DONE: u32 = 0;
 
 pub const M_ABOVE_H: u32 = 1;

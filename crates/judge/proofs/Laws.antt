@@ -103,7 +103,7 @@ module _ (o : Orbit) (u : Units) (n : ℕ) where
               let h = exact-apart o (lowEnd u n) (u .c - (n + 1)) small (omega arith) (c .lower) (b .upper) in omega arith
         ]
 
-    -- no claim is both, not even at two depths
+    -- R46: no claim is both, not even at two depths
     pub never-both : (d e : ℕ) → d ≤ depths → e ≤ depths → T (confirmed o d u n) → T (refuted o e u n) → ⊥
     never-both d e i j s t = exact-clash (confirmed-exact top d i s) (refuted-exact top e j t)
 
@@ -148,7 +148,7 @@ module _ (o : Orbit) (u : Units) (n d : ℕ) where
   unfolding verdictOf
   is-refuted v = refuted-test (confirmed o d u n) (refuted o d u n) v
 
-  -- a verdict is kept at every greater depth
+  -- R47: a verdict is kept at every greater depth
   pub confirmed-kept : (e : ℕ) → d ≤ e → verdictOf o d u n ≡ Confirmed → verdictOf o e u n ≡ Confirmed
   unfolding verdictOf
   confirmed-kept e h v = confirmed-chosen (confirmed o e u n) (refuted o e u n) (confirmed-deeper o u n h (is-confirmed v))

@@ -1,5 +1,4 @@
 pub mod Checks
 pub mod Laws
 pub mod Entry
-pub mod Numbers
 pub mod Small

@@ -1,4 +1,4 @@
--- What a verdict says in exact fractions, for the promises: the ends that a claim's tolerance names.
+-- What a verdict says in exact fractions, for the promises: R19 at the ends that R43 and R44 test.
 use Prim.Native.Nat.{ℕ, _+_, _-_, _≤_}
 use Rattle.grid.specs.Grid.{T-units}
 use Rattle.ends.specs.declared.Orbit.{Orbit}
@@ -7,20 +7,21 @@ use Rattle.units.specs.declared.Units.{Units}
 use Rattle.judge.specs.Verdict.{lowEnd, highEnd}
 use Rattle.judge.specs.declared.Claim.{Claim}
 
--- the exact inequalities at p and q
+-- R19, R43: the exact inequalities at p and q
 pub record ConfirmedExact (o : Orbit) (u : Units) (n : ℕ) : Type 0 where
   pub lower : LowerExact o (lowEnd u n)
   pub upper : UpperExact o (highEnd u n)
 
--- the exact inequality at the refuting end, above q or below p
+-- R19, R44: the exact inequality at the refuting end above q
 pub record AboveExact (o : Orbit) (u : Units) (n : ℕ) : Type 0 where
   pub within : u .f + n + 1 ≤ T-units
   pub lower : LowerExact o (u .f + n + 1)
 
+-- R19, R44: the exact inequality at the refuting end below p
 pub record BelowExact (o : Orbit) (u : Units) (n : ℕ) : Type 0 where
   pub within : n + 1 ≤ u .c
   pub upper : UpperExact o (u .c - (n + 1))
 
--- the same claim at another depth
+-- R47: the same claim at another depth
 abbrev pub atDepth : Claim → ℕ → Claim
 atDepth k e = record { m = k .m; a = k .a; estimate = k .estimate; n = k .n; depth = e }

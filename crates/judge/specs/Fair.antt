@@ -5,7 +5,7 @@ use Rattle.grid.specs.declared.Depth.{Depth}
 use Rattle.ends.specs.declared.Orbit.{Orbit}
 use Rattle.units.specs.declared.Units.{Units}
 
--- the limits that the public entry has tested
+-- R3: the limits that the public entry has tested
 pub record Tested (o : Orbit) (u : Units) (n : ℕ) (d : Depth) : Type 0 where
   pub mean : o .m ≤ H-units
   pub shape : o .a ≤ one

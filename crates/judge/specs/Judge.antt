@@ -1,4 +1,4 @@
--- What the entry `judge` answers for any claim: the sections "Judging a double" and "Codes".
+-- What the entry `judge` answers for any claim, R48.
 use Prim.Native.Nat.{ℕ}
 use mathlib.Core.List.{List, [], _∷_}
 use Rattle.grid.specs.Codes.{Check, number, done, answer, m-check, a-check, depth-check, n-check}
@@ -12,12 +12,12 @@ use Rattle.judge.specs.declared.Case.{Case}
 use Rattle.judge.specs.declared.CaseOr.{CaseOr}
 use Rattle.judge.specs.declared.CaseOr.the-variants.{Made, Refused}
 
--- "Order: .. 1, 2, 3, .. 4, 5": the checks of a claim
+-- R48: the checks of a claim, codes 1, 2, 3, 4 and 5 in that order
 abbrev pub claimChecks : Claim → List Check
 claimChecks c =
     m-check (c .m) ∷ a-check (c .a) ∷ depth-check (c .depth) ∷ estimate-check (c .estimate) ∷ n-check (c .n) ∷ []
 
--- "A claim is M, A, a binary64 estimate in radians, N, d": an orbit, f and c, N and a depth where the checks pass
+-- R48: a claim whose checks pass: an orbit, f and c, N and a depth
 abbrev pub caseAt : Claim → Case
 caseAt c =
     record {
@@ -27,6 +27,7 @@ caseAt c =
       d = record { pairs = c .depth };
     }
 
+-- R48: that, or the first code that applies
 abbrev pub caseOf : Claim → CaseOr
 caseOf c = answer (claimChecks c) Refused (Made (caseAt c))
 
@@ -36,7 +37,7 @@ caseSays (Made k) = record { code = number done; value = k }
 caseSays (Refused code) =
     record { code = code; value = record { o = record { m = 0; a = 0 }; u = record { f = 0; c = 0 }; n = 0; d = record { pairs = 0 } } }
 
--- the verdict on a case
+-- R45: the verdict on a case
 abbrev pub caseVerdict : Case → Verdict
 caseVerdict k = verdictOf (k .o) (k .d .pairs) (k .u) (k .n)
 
@@ -44,8 +45,7 @@ caseVerdict k = verdictOf (k .o) (k .d .pairs) (k .u) (k .n)
 abbrev pub verdict : Verdict → Judged
 verdict v = record { code = number done; verdict = verdictNumber v }
 
--- the first code of the claim's checks, and the verdict where there is none;
--- "With a code other than 0, all other returned numbers are 0"
+-- R48: the first code of the claim's checks, and the verdict where there is none; R7: a zero beside a code
 unfoldable pub judgeRule : Claim → Judged
 judgeRule c =
     answer (claimChecks c) (λ code. record { code = code; verdict = 0 })

@@ -49,7 +49,7 @@ pub fn number_of(v: Verdict) -> u32
     }
 }
 
-// Is p an accepted lower end, and q an accepted upper end?
+// R43, of the reach p to q of R42.
 fn is_confirmed(o: Orbit, u: Units, n: u64, d: Depth) -> bool
     requires { ⌜ Tested o u n d ⌝ }
     ensures { λ r. ⌜ r ≡ confirmed o (d .pairs) u n ⌝ }
@@ -63,7 +63,7 @@ fn is_confirmed(o: Orbit, u: Units, n: u64, d: Depth) -> bool
     }
 }
 
-// Is f + N + 1 at most T, and an accepted lower end?
+// R44: is there an accepted lower end one unit above q?
 fn lower_above(o: Orbit, u: Units, n: u64, d: Depth) -> bool
     requires { ⌜ Tested o u n d ⌝ }
     ensures { λ r. ⌜ r ≡ lowerAbove o (d .pairs) u n ⌝ }
@@ -76,7 +76,7 @@ fn lower_above(o: Orbit, u: Units, n: u64, d: Depth) -> bool
     }
 }
 
-// Is c - N - 1 at least 0, and an accepted upper end?
+// R44: is there an accepted upper end one unit below p?
 fn upper_below(o: Orbit, u: Units, n: u64, d: Depth) -> bool
     requires { ⌜ Tested o u n d ⌝ }
     ensures { λ r. ⌜ r ≡ upperBelow o (d .pairs) u n ⌝ }

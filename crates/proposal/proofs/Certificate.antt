@@ -32,13 +32,13 @@ module _ (o : Orbit) (E : ℕ) (mean : o .m ≤ H-units) (angle : E ≤ T-units)
   high-30 : highAt E 30 ≡ T-units
   high-30 = min-eq-right (omega arith)
 
-  -- "One always exists"
+  -- R39: so the last width always certifies
   pub last-width : T (certifies o E 30)
   unfolding certifies
   last-width =
       rw (low-30, high-30) (both (lowerEnd o depths 0) (upperEnd o depths T-units) (zero-lower o depths) (T-upper o depths (omega arith) (omega arith)))
 
-  -- "the smallest j from 0 to 30"
+  -- R38: the certificate is the smallest j that certifies
   pub certified : Smallest (certifies o E) widths (certificate o E)
   unfolding certificate
   certified = smallest (certifies o E) widths 30 (omega arith) last-width
@@ -56,7 +56,7 @@ module _ (o : Orbit) (E : ℕ) (mean : o .m ≤ H-units) (angle : E ≤ T-units)
         upper-true o (highAt E j) (min-le-right (E + 2 ^ j) T-units) depths (omega arith) (p .1),
       )
 
--- ---- what the entry's answer says, for any final state: "a wrong rotation costs width and never truth"
+-- ---- R39: what the entry's answer says, for any final state, so that no rotation can make it false
 module _ (o : Orbit) (s : State) (mean : o .m ≤ H-units) where
   pub concluded-smallest : Smallest (certifies o (concluded o s .angle)) widths (concluded o s .j)
   unfolding concluded

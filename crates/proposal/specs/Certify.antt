@@ -1,4 +1,4 @@
--- The certificate: the section "The proposal".
+-- The certificate of an angle E, R38.
 use Prim.Native.Nat.{ℕ, zero, suc, _+_, _-_, _^_, _<_, min}
 use mathlib.Core.Bool.{Bool, not, cond, _&&_}
 use lib.Dec.{T}
@@ -6,32 +6,32 @@ use Rattle.grid.specs.Grid.{T-units, depths}
 use Rattle.ends.specs.Ends.{lowerEnd, upperEnd}
 use Rattle.ends.specs.declared.Orbit.{Orbit}
 
--- "the greater of E - 2^j and 0": a difference of naturals is 0 where it would fall below
+-- R38: the end below E: a difference of naturals is 0 where it would fall below
 abbrev pub lowAt : ℕ → ℕ → ℕ
 lowAt E j = E - 2 ^ j
 
--- "the lesser of E + 2^j and T"
+-- R38: the end above E, not beyond T
 abbrev pub highAt : ℕ → ℕ → ℕ
 highAt E j = min (E + 2 ^ j) T-units
 
--- "is an accepted lower end and .. an accepted upper end, both at depth 5"
+-- R38: whether both ends are accepted at depth 5
 unfoldable pub certifies : Orbit → ℕ → ℕ → Bool
 certifies o E j = lowerEnd o depths (lowAt E j) && upperEnd o depths (highAt E j)
 
--- the first of the n numbers from i on that passes a test, and i + n where none does
+-- R38: the first of the n numbers from i on that passes a test, and i + n where none does
 unfoldable pub firstFrom : (ℕ → Bool) → ℕ → ℕ → ℕ
 firstFrom test i zero = i
 firstFrom test i (suc n) = cond (test i) i (firstFrom test (suc i) n)
 
--- "from 0 to 30": 31 widths
+-- R38: how many j there are, from 0 on
 abbrev pub widths : ℕ
 widths = 31
 
--- "the smallest j from 0 to 30 such that"
+-- R38: the first j that certifies
 unfoldable pub certificate : Orbit → ℕ → ℕ
 certificate o E = firstFrom (certifies o E) 0 widths
 
--- j is the smallest number below n that passes a test
+-- R38: j is the smallest number below n that passes a test
 pub record Smallest (test : ℕ → Bool) (n j : ℕ) : Type 0 where
   pub within : j < n
   pub here : T (test j)

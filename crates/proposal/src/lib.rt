@@ -49,7 +49,7 @@ fn holds(o: Orbit, e: u64, j: u32) -> bool
     }
 }
 
-// The smallest width 2^j about E whose two ends are accepted.
+// R38: the smallest width 2^j about E whose two ends are accepted.
 fn certify(o: Orbit, e: u64) -> u32
     requires { ⌜ Triable o e 0 ⌝ }
     ensures { λ r. ⌜ r ≡ certificate o e ⌝ }
@@ -82,7 +82,7 @@ fn conclude(o: Orbit, s: State) -> Proposal
 
 // Given: the mean anomaly m, 0 to H units, and the eccentricity a / 2^28, a from 0 to 2^28.
 // Returned: the angle E proposed, y and x of the last rotation, and the certificate j, the smallest width such that the ends
-// max(E - 2^j, 0) and min(E + 2^j, T) are accepted at depth 5. Nothing is said of how near E is but what j says.
+// max(E - 2^j, 0) and min(E + 2^j, T) are accepted at depth 5 (R38). How near E is, j alone says (R39).
 // Code: 0 done; 1 m above H; 2 a above 2^28. With code 1 or 2 all other numbers are 0.
 pub fn propose(m: u32, a: u32) -> Proposal
     ensures { λ r. ⌜ r ≡ proposalRule m a ⌝ }

@@ -33,7 +33,7 @@ shift-high k (negsuc n) =
     le-parts (is-add (own (negsuc n)) (is-pos 1)) (is-mul (2 ^ k) (is-add (own (negsuc (n / 2 ^ k))) (is-pos 1))) .1
     (omega (arith, mul-div-le n (2 ^ k)))
 
--- "Source 001 has -11 shifted right by 2 as -3"
+-- R36, R58: -11 / 4 is -3 rounded down; toward zero it would be -2
 minus-eleven : shifted 2 (negsuc 10) ≡ negsuc 2
 unfolding shifted
 minus-eleven = refl

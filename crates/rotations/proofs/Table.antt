@@ -1,4 +1,4 @@
--- The arctangent table keeps its rule at each entry, by one computed test, and G keeps its own. Assumes nothing.
+-- R33, R34: the arctangent table keeps its rule at each entry, by one computed test, and G keeps its own. Assumes nothing.
 use Prim.Native.Nat.{ℕ, zero, suc, _+_, _*_, _^_, _≤_, _<_}
 use native.Mathlib.Omega.{arith}
 use native.Mathlib.Nat.{mul-pos, one-le-pow}
@@ -37,7 +37,7 @@ high k n = ltZ (pos one *ℤ atan k lastAbove .num) (pos (n + 1) *ℤ pos (atan 
 right : ℕ → ℕ → Bool
 right k n = low k n && high k n
 
--- "entry k is 2^28 atan(2^-k) rounded down", by one test over the whole table
+-- R33: each entry is right, by one test over the whole table
 whole-table : (k : ℕ) → k < entries → T (right k (entry k))
 unfolding low high right atan atanSum table entry
 whole-table k h = at right table tt k h

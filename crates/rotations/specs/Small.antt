@@ -1,5 +1,5 @@
--- What the inner functions ask of their numbers, so that no sum leaves the range of an i64. No entry's contract cites this file. That the rotations keep to it
--- from the start on is a law of their definition, among the proofs.
+-- What the inner functions ask of their numbers, so that no sum leaves the range of an i64. No entry's contract cites this file.
+-- That the rotations keep to it from the start on is a law of their definition, among the proofs.
 use Prim.Native.Nat.{ℕ, _≤_, _<_}
 use lib.IntN.{ℤ, natAbs}
 use Rattle.grid.specs.Grid.{one, H-units}
@@ -31,7 +31,7 @@ pub record Signable (s : State) (m : ℕ) : Type 0 where
   pub room : Room s
   pub mean : m ≤ roomy
 
--- M from 0 to H and A from 0 to 2^28, as the checked constructor makes an orbit
+-- R3: the limits of M and A, as the checked constructor makes an orbit
 pub record OnGrid (o : Orbit) : Type 0 where
   pub mean : o .m ≤ H-units
   pub shape : o .a ≤ one

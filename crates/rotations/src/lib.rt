@@ -16,7 +16,7 @@ pub struct State {
     pub y: i64,
 }
 
-// Entry k is 2^28 atan(2^-k) rounded down.
+// R33: entry k stands at k.
 const TABLE: [u64; 25] = [
     210_828_714,
     124_459_457,
@@ -49,7 +49,7 @@ const ONE: u64 = grid::Eccentricity::ONE as u64;
 
 const T: u64 = Angle::T as u64;
 
-// 2^28 times the product of 4^k / (4^k + 1), k = 0 to 24, rounded down.
+// R34: what A is scaled by.
 const G: u64 = 98_987_219;
 
 // Two with each shift.
@@ -75,7 +75,7 @@ fn signed(z: i64, plus: bool) -> i64
     if plus { z } else { 0 - z }
 }
 
-// What x loses of y, and y gains of x: the number divided by 2^k rounding down, and then signed.
+// R36: what x loses of y and y gains of x: the shift rounds down, and the sign comes after it.
 fn part(z: i64, k: u32, plus: bool) -> i64
     requires { ⌜ Shiftable z k ⌝ }
     ensures { λ r. ⌜ r ≡ signedBy plus (shifted k z) ⌝ }
@@ -95,7 +95,7 @@ fn turn(s: State, k: u32, plus: bool) -> State
     State { e, x, y }
 }
 
-// The rule that picks the sign: plus if E - y < M.
+// R36: the sign of the next rotation, true for plus.
 fn sign(s: State, m: u64) -> bool
     requires { ⌜ Signable s m ⌝ }
     ensures { λ r. ⌜ r ≡ plusAt m s ⌝ }
@@ -103,7 +103,7 @@ fn sign(s: State, m: u64) -> bool
     s.e - s.y < m as i64
 }
 
-// E = 0, x = A G / 2^28 rounded down, y = 0.
+// R35: the state before the first rotation.
 fn start(a: u64) -> State
     requires { ⌜ a ≤ one ⌝ }
     ensures { λ r. ⌜ r ≡ start a ⌝ }
@@ -131,7 +131,7 @@ pub fn rotate(o: Orbit) -> State
     s
 }
 
-// E brought into 0 to T.
+// R37: E, or the nearer of 0 and T where it lies outside.
 pub fn bring(e: i64) -> u64
     ensures { λ r. ⌜ r ≡ brought e ⌝ }
 {

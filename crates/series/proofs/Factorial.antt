@@ -1,4 +1,4 @@
--- What an exact sum of sine is multiplied out by: "(2n+1)! and the power of 2^28 it needs". Assumes nothing.
+-- R8: what an exact sum of sine is multiplied out by, in closed form. Assumes nothing.
 use mathlib.Core.Path.{_≡_, refl}
 use Prim.Native.Nat.{ℕ, zero, suc, _+_, _*_, _^_}
 use native.Mathlib.Omega.{arith}
@@ -7,7 +7,7 @@ use Rattle.series.specs.Exact.{num, ratio, den}
 use Rattle.series.specs.Factorial.{factorial}
 use Rattle.series.specs.Sine.{sine}
 
--- 2^28 t_n is X^(2n+1) / den n, and den n is (2^56)^n (2n+1)!
+-- R8: 2^28 t_n is X^(2n+1) / den n, and den n is (2^56)^n (2n+1)!
 pub den-is : (n : ℕ) → den sine n ≡ 72057594037927936 ^ n * factorial (2 * n + 1)
 unfolding den ratio factorial
 den-is zero = refl

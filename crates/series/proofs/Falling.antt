@@ -1,5 +1,4 @@
--- "For 0 <= x and x^2 <= 20 the sums with odd n never fall as n grows and those with even n never rise": for any series
--- whose divisors from the second on are at least x^2. Assumes nothing.
+-- R9: how the exact sums close in, for any series whose divisors from the second on are at least x^2. Assumes nothing.
 use mathlib.Core.Path.{_≡_, refl, ap, subst, _∙_}
 use mathlib.Core.Bool.{Bool, true, false, not}
 use Prim.Native.Nat.{ℕ, zero, suc, _+_, _-_, _*_, _≤_}
@@ -89,7 +88,7 @@ module _ (s : Series) (X : ℕ) (small : Small s X) where
       (parted-mul (even n) (S s X m) (same s X m) (other s X m) (den s n) (rw (even-far n j m e) at (S-parts s X m)))
       (far-parts n j m e)
 
-  -- "the sums with odd n never fall as n grows and those with even n never rise"
+  -- R9: no odd sum is below an earlier odd one, and no even sum above an earlier even one
   pub odd-never-falls : (i k : ℕ) → i ≤ k →
       (S s X (suc (2 * i)) *ℤ pos (den s (suc (2 * k)))) ≤ℤ (S s X (suc (2 * k)) *ℤ pos (den s (suc (2 * i))))
   odd-never-falls i k h =
@@ -112,7 +111,7 @@ within-20 X h = le-trans (mul-le-mul h h) (lit≤ {m = T-units * T-units} {n = 7
 pub T-small : (X : ℕ) → X ≤ T-units → Small sine X
 T-small X h = sine-small X (within-20 X h)
 
--- for sine, at 0 <= x and x^2 <= 20
+-- R9: the same of sine, while x^2 <= 20
 pub sine-odd-never-falls : (X i k : ℕ) → X * X ≤ 72057594037927936 * 20 → i ≤ k →
     (S sine X (suc (2 * i)) *ℤ pos (den sine (suc (2 * k)))) ≤ℤ (S sine X (suc (2 * k)) *ℤ pos (den sine (suc (2 * i))))
 sine-odd-never-falls X i k x = odd-never-falls sine X (sine-small X x) i k

@@ -1,5 +1,4 @@
--- "Required: Lo <= 2^28 S_9(X), 2^28 S_10(X) <= Hi at every depth": for any series the best raw bounds are true of every
--- exact sum long enough. Assumes nothing.
+-- R14: the bounds are true. For any series the best raw bounds are true of every exact sum long enough. Assumes nothing.
 use mathlib.Core.Path.{_≡_}
 use Prim.Native.Nat.{ℕ, zero, suc, _-_, _*_, _≤_}
 use native.Mathlib.Omega.{arith}

@@ -1,4 +1,4 @@
--- "At depth 5, Hi - Lo <= 32": each u_k is within 3 of its l_k, and the last term is at most 1. Assumes nothing.
+-- R15: the width at depth 5. Each u_k is within 3 of its l_k, and the last term is at most 1. Assumes nothing.
 use Prim.Native.Nat.{ℕ, zero, suc, _+_, _*_, _≤_, _<_}
 use native.Mathlib.Omega.{arith}
 use native.Mathlib.Nat.{mul-le-mul-left, mul-le-mul-right, lt-of-mul-lt-mul-right}

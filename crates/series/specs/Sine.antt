@@ -1,30 +1,34 @@
--- Sine: first term X, divisor 2k(2k+1): the section "Sine as whole numbers".
+-- Sine among the series, R8 to R13: its bounds Lo and Hi, and its exact sums S_9 and S_10.
 use Prim.Native.Nat.{ℕ, _+_, _*_}
 use lib.IntN.{ℤ}
 use Rattle.series.specs.Terms.{Series}
 use Rattle.series.specs.Bounds.{greatestLow, leastHigh}
 use Rattle.series.specs.Exact.{S, den}
 
+-- R8, R11: first term X, divisor 2k(2k+1)
 abbrev pub sine : Series
 sine = record { first = λ X. X; divisor = λ k. 2 * k * (2 * k + 1) }
 
--- "Lo is the greatest raw low of depths 1 to d; Hi the least raw high of depths 1 to d"
+-- R13: sine's greatest raw low
 abbrev pub Lo : ℕ → ℕ → ℤ
 Lo X d = greatestLow sine X d
 
+-- R13: sine's least raw high
 abbrev pub Hi : ℕ → ℕ → ℤ
 Hi X d = leastHigh sine X d
 
--- 2^28 S_9(X) and 2^28 S_10(X), multiplied out by `den9` and `den10`
+-- R8: 2^28 S_9(X), multiplied out by `den9`
 abbrev pub S9 : ℕ → ℤ
 S9 X = S sine X 9
 
+-- R8: 2^28 S_10(X), multiplied out by `den10`
 abbrev pub S10 : ℕ → ℤ
 S10 X = S sine X 10
 
--- (2^56)^9 19! and (2^56)^10 21!
+-- R8: (2^56)^9 19!
 abbrev pub den9 : ℕ
 den9 = den sine 9
 
+-- R8: (2^56)^10 21!
 abbrev pub den10 : ℕ
 den10 = den sine 10

@@ -11,7 +11,7 @@ use Rattle.series.specs.Sine.{sine, Lo, Hi}
 use Rattle.series.specs.declared.Walk.{Walk}
 use Rattle.series.specs.declared.Raised.{Raised}
 
--- the limits that the checked constructors see to
+-- R3: the limits that the checked constructors see to
 pub record OnGrid (x : Angle) (d : Depth) : Type 0 where
   pub angle : x .units ≤ T-units
   pub some : 1 ≤ d .pairs
@@ -35,7 +35,8 @@ pub record Small (t q divisor : ℕ) : Type 0 where
   pub divides : 1 ≤ divisor
   pub little : divisor ≤ 65536
 
--- the best bounds of depths 1 to d, raised; before depth 1 there is none, and any bound is better than what stands there
+-- R13: the best bounds of depths 1 to d, raised; before depth 1 there is none, and any bound is better than what stands
+-- there
 unfoldable pub bestLow : ℕ → ℕ → ℕ
 bestLow X zero = 0
 bestLow X (suc d) = raised (Lo X (suc d))

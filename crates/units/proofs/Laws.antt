@@ -63,9 +63,9 @@ made-rounded x u h =
     let e = value-made unit-answers (floorAndCeiling x) (estimate-check x ∷ []) (unitsOf x) u refl h in
     rw e (in-range-rounded x (g .passed .0))
 
--- ---- numbers to hold against
+-- ---- R57: numbers to hold against
 
--- "Estimate 2^-1074: f = 0, c = 1"
+-- R57: the smallest double above 0 lies between 0 and 1 unit
 pub smallest : unitsOf (fin false 1 (negsuc 1073)) ≡ Made (record { f = 0; c = 1 })
 unfolding offRange
 smallest = refl
@@ -74,12 +74,12 @@ pub smallest-bits : ofBits binary64 1 ≡ fin false 1 (negsuc 1073)
 unfolding ofBits
 smallest-bits = refl
 
--- "Negative zero counts as 0"
+-- R41: minus zero is 0 units
 pub negative-zero : unitsOf (fin true 0 (pos 0)) ≡ Made (record { f = 0; c = 0 })
 unfolding offRange
 negative-zero = refl
 
--- T units are accepted, the next double above them has code 4
+-- R5: T units are taken, the next double above them has code 4
 pub at-limit : unitsOf (ofBits binary64 0x400921fb74000000) ≡ Made (record { f = T-units; c = T-units })
 unfolding offRange ofBits
 at-limit = refl

@@ -1,4 +1,4 @@
--- The section "Judging a double", its first lines: from a binary64 estimate in radians to whole units.
+-- From a binary64 estimate in radians to whole units, R41, or code 4, R5.
 use Prim.Native.Nat.{ℕ, _*_}
 use mathlib.Core.Bool.{Bool, true, _&&_}
 use mathlib.Core.List.{[], _∷_}
@@ -13,24 +13,25 @@ use Rattle.units.specs.declared.Units.{Units}
 use Rattle.units.specs.declared.UnitsOr.{UnitsOr}
 use Rattle.units.specs.declared.UnitsOr.the-variants.{Made, Refused}
 
--- "The estimate times 2^28 is exact": a finite estimate is num / den radians in size, so it is product / den units
+-- R41: a finite estimate is num / den radians in size, so it is exactly product / den units
 abbrev pub product : Float → ℕ
 product x = one * num x
 
--- "f is that product rounded down, c rounded up"
+-- R41: f and c
 abbrev pub floorAndCeiling : Float → Units
 floorAndCeiling x = record { f = down (product x) (den x); c = up (product x) (den x) }
 
--- "estimate is not a number, infinite, below zero, or above T units"; "Negative zero counts as 0"
+-- R5: the condition of code 4; R41: a minus sign before 0 is no number below zero
 unfoldable pub offRange : Float → Bool
 offRange nan = true
 offRange (inf s) = true
 offRange (fin s m e) = or (s && ltb 0 m) (ltb (T-units * den (fin s m e)) (product (fin s m e)))
 
+-- R5: code 4, an estimate that is off range
 abbrev pub estimate-check : Float → Check
 estimate-check x = record { fails = offRange x; code = estimate-off-range }
 
--- f and c of an estimate, or code 4
+-- R41: f and c of an estimate, or code 4
 abbrev pub unitsOf : Float → UnitsOr
 unitsOf x = answer (estimate-check x ∷ []) Refused (Made (floorAndCeiling x))
 

@@ -1,4 +1,5 @@
--- `claim_file::answer_file` meets its contract: the answers stand at the buffer's start, as many as the batch counted. Assumes nothing.
+-- `claim_file::answer_file` meets its contract: the answers stand at the buffer's start, as many as the batch counted.
+-- Assumes nothing.
 use borrow.Author.Needs.{needs}
 use mathlib.Core.Path.{_≡_, refl, sym, _∙_}
 use Prim.Native.Nat.{_≤_, zero-le}

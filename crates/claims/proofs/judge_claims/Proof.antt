@@ -1,5 +1,5 @@
--- `claims::judge_claims` meets its contract. The loop's invariant: the answers buffer is as it was, with the answers of the records passed
--- written from its start. The measure is the number of records left. Assumes nothing.
+-- `claims::judge_claims` meets its contract. The loop's invariant: the answers buffer is as it was, with the answers of the
+-- records passed written from its start. The measure is the number of records left. Assumes nothing.
 use borrow.Author.Needs.{needs}
 use native.Mathlib.Omega.{arith}
 use mathlib.Core.Path.{_≡_, ap, _∙_}

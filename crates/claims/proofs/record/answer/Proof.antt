@@ -1,4 +1,5 @@
--- `claims::record::answer` meets its contract: the tests that led to each return choose the byte, and each byte is small. Assumes nothing.
+-- `claims::record::answer` meets its contract: the tests that led to each return choose the byte, and each byte is small.
+-- Assumes nothing.
 use borrow.Author.Needs.{needs}
 use borrow.Author.Tests.{eq-eqb, ne-eqb}
 use native.Mathlib.Omega.{arith}

@@ -1,4 +1,5 @@
--- `claims::record::double` meets its contract: at a NaN's pattern zero by zero is the value, at any other the pattern is read. Assumes nothing.
+-- `claims::record::double` meets its contract: at a NaN's pattern zero by zero is the value, at any other the pattern is read.
+-- Assumes nothing.
 use borrow.Author.Needs.{needs}
 use mathlib.Core.Path.{sym, _∙_}
 use Rattle.claims.proofs.LawsDouble.{nan-pattern, no-nan-pattern, zero-by-zero}
