@@ -40,7 +40,8 @@ beside : AllHold others
 unfolding others l u evens odds rawLow rawHigh greatestLow leastHigh lowerEnd upperEnd offRange ofBits verdictOf confirmed refuted judgeRule littleEndian answerAt batchRule upTo answersAfter
 beside =
     (refl, refl) and (refl, refl) and (refl, refl) and (refl, refl) and (refl, refl) and (refl, refl) and refl and refl and refl
-    and refl and (refl, refl) and tt
+    and refl and refl and refl and (refl, refl) and tt
 
 pub starred-met : Starred
-starred-met = record { list = list; beside = beside; circle = circle }
+unfolding sineRule l u evens odds rawLow rawHigh greatestLow leastHigh
+starred-met = record { list = list; beside = beside; below-zero = refl; circle = circle }

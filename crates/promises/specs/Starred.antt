@@ -3,17 +3,17 @@ use mathlib.Core.Path.{_≡_}
 use mathlib.Core.Bool.{Bool, true, false}
 use mathlib.Core.List.{List, [], _∷_, _++_}
 use Prim.Native.Nat.{ℕ, _+_, _≤_}
-use lib.IntN.{pos}
+use lib.IntN.{pos, negsuc}
 use lib.Ieee.{binary64, ofBits}
 use lib.ListN.{length}
 use Rattle.grid.specs.Grid.{one, H-units, T-units, depths}
-use Rattle.grid.specs.Codes.{Code, number, done, m-above-H, a-above-one, x-above-T, T-no-upper-end}
+use Rattle.grid.specs.Codes.{Code, number, done, m-above-H, a-above-one, estimate-off-range, x-above-T, T-no-upper-end}
 use Rattle.series.specs.Bounds.{rawLow, rawHigh}
 use Rattle.series.specs.Sine as series
 use Rattle.series.specs.Entry.{sineRule}
 use Rattle.ends.specs.Entry.{flagged, lowerRule, upperRule}
 use Rattle.enclosure.specs.Enclosure.{enclosureRule}
-use Rattle.units.specs.Units.{unitsOf}
+use Rattle.units.specs.Units.{unitsOf, unitsSays}
 use Rattle.units.specs.declared.UnitsOr.the-variants.{Made}
 use Rattle.judge.specs.Judge.{verdict, judgeRule}
 use Rattle.judge.specs.declared.Verdict.{Verdict}
@@ -35,6 +35,8 @@ pub data Row : Type 0 where
   estimate : ℕ → ℕ → ℕ → Row
   -- M, A, X: the code of the end tests at depth 1
   code : ℕ → ℕ → ℕ → Code → Row
+  -- the estimate's bits: its code
+  estimate-code : ℕ → Code → Row
   -- M, A, the estimate's bits, N, depth: the verdict
   judged : ℕ → ℕ → ℕ → ℕ → ℕ → Verdict → Row
   -- claims and the answers buffer: the count, and the buffer after
@@ -53,6 +55,7 @@ Holds (upper M A X d t) = upperRule X M A d ≡ flagged t
 Holds (ends M A d k a b) = enclosureRule M A d ≡ record { code = number k; a = a; b = b }
 Holds (estimate bits f c) = unitsOf (ofBits binary64 bits) ≡ Made (record { f = f; c = c })
 Holds (code M A X k) = (lowerRule X M A 1 .code ≡ number k) × (upperRule X M A 1 .code ≡ number k)
+Holds (estimate-code bits k) = unitsSays (unitsOf (ofBits binary64 bits)) .code ≡ number k
 Holds (judged M A bits N d v) =
     judgeRule (record { m = M; a = A; estimate = ofBits binary64 bits; n = N; depth = d }) ≡ verdict v
 Holds (batch claims answers n after) =
@@ -110,6 +113,9 @@ others =
     ∷ code 0 (one + 1) T-units a-above-one
     ∷ code 0 0 T-units done
     ∷ code 0 0 (T-units + 1) x-above-T
+    -- T units in radians, and the next double above them
+    ∷ estimate-code 0x400921fb74000000 done
+    ∷ estimate-code 0x400921fb74000001 estimate-off-range
     -- M = 0, e = 1: the estimates 2^-9, whose residual is small, and 2^-8, and 0 with two tolerances, the wider of which loses the verdict (R47)
     ∷ judged 0 one 0x3f60000000000000 1000 5 Undecided
     ∷ judged 0 one 0x3f70000000000000 1000 5 Refuted
@@ -123,5 +129,7 @@ pub record Starred : Type 0 where
   -- R57: the starred rows, one statement
   pub list : AllHold starred
   pub beside : AllHold others
+  -- R13: at T both bounds lie below zero
+  pub below-zero : sineRule T-units depths ≡ record { code = number done; lo = negsuc 68; hi = negsuc 56 }
   -- R32
   pub circle : (m d : ℕ) → m ≤ H-units → 1 ≤ d → d ≤ depths → enclosureRule m 0 d ≡ record { code = number done; a = m; b = m }

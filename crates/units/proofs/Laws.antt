@@ -6,9 +6,8 @@ use native.Mathlib.Nat.{le-of-eq, le-antisymm}
 use native.Mathlib.Omega.{arith}
 use mathlib.Core.List.{[], _∷_}
 use lib.Dec.{ltb}
-use lib.IntN.{pos, negsuc}
 use borrow.Author.Tests.{ltb-false}
-use lib.Ieee.{Float, nan, inf, fin, binary64, ofBits}
+use lib.Ieee.{Float, nan, inf, fin}
 use lib.Ieee.Positive.{den, den-pos}
 use Rattle.whole.specs.Round.{down, up}
 use Rattle.whole.proofs.Round.{down-le, lt-down, le-up, up-lt, up-le, down-le-up}
@@ -17,7 +16,7 @@ use Rattle.grid.specs.Codes.{or}
 use Rattle.units.specs.Units.{product, floorAndCeiling, offRange, estimate-check, unitsOf}
 use Rattle.units.specs.Exact.{Rounded}
 use Rattle.units.specs.declared.Units.{Units}
-use Rattle.units.specs.declared.UnitsOr.the-variants.{Made, Refused}
+use Rattle.units.specs.declared.UnitsOr.the-variants.{Made}
 use Rattle.grid.proofs.Made.{was-made, value-made}
 use Rattle.units.proofs.Enum.{unit-answers}
 use Rattle.whole.proofs.Round.{up-whole, up-le-next}
@@ -62,28 +61,3 @@ made-rounded x u h =
     let g = was-made unit-answers (floorAndCeiling x) (estimate-check x ∷ []) (unitsOf x) u refl h in
     let e = value-made unit-answers (floorAndCeiling x) (estimate-check x ∷ []) (unitsOf x) u refl h in
     rw e (in-range-rounded x (g .passed .0))
-
--- ---- R57: numbers to hold against
-
--- R57: the smallest double above 0 lies between 0 and 1 unit
-pub smallest : unitsOf (fin false 1 (negsuc 1073)) ≡ Made (record { f = 0; c = 1 })
-unfolding offRange
-smallest = refl
-
-pub smallest-bits : ofBits binary64 1 ≡ fin false 1 (negsuc 1073)
-unfolding ofBits
-smallest-bits = refl
-
--- R41: minus zero is 0 units
-pub negative-zero : unitsOf (fin true 0 (pos 0)) ≡ Made (record { f = 0; c = 0 })
-unfolding offRange
-negative-zero = refl
-
--- R5: T units are taken, the next double above them has code 4
-pub at-limit : unitsOf (ofBits binary64 0x400921fb74000000) ≡ Made (record { f = T-units; c = T-units })
-unfolding offRange ofBits
-at-limit = refl
-
-pub past-limit : unitsOf (ofBits binary64 0x400921fb74000001) ≡ Refused 4
-unfolding offRange ofBits
-past-limit = refl
