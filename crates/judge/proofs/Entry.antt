@@ -11,7 +11,7 @@ use Rattle.grid.specs.Grid.{T-units, depths}
 use Rattle.grid.specs.Codes.{Check, number, answer, depth-check, Passed}
 use Rattle.grid.proofs.Made.{Given, passes}
 use Rattle.ends.specs.Exact.{LowerExact, UpperExact}
-use Rattle.judge.specs.Verdict.{lowEnd, highEnd, verdictOf, verdictNumber}
+use Rattle.judge.specs.Verdict.{lowEnd, highEnd, verdictNumber}
 use Rattle.judge.specs.Judge.{claimChecks, caseAt, caseVerdict, verdict, judgeRule}
 use Rattle.judge.specs.declared.Claim.{Claim}
 use Rattle.judge.specs.declared.Judged.{Judged}

@@ -1,5 +1,4 @@
 -- What the entry `judge` answers for any claim, R48.
-use Prim.Native.Nat.{ℕ}
 use mathlib.Core.List.{List, [], _∷_}
 use Rattle.grid.specs.Codes.{Check, number, done, answer, m-check, a-check, depth-check, n-check}
 use Rattle.grid.specs.Said.{Said}

@@ -1,6 +1,6 @@
 -- The rules' own promises are kept. Assumes nothing.
-use mathlib.Core.Path.{_≡_, refl, sym, ap, _∙_}
-use mathlib.Core.Bool.{Bool, true, not}
+use mathlib.Core.Path.{_≡_, refl}
+use mathlib.Core.Bool.{Bool, true}
 use mathlib.Core.List.{[], _∷_}
 use Prim.Native.Nat.{ℕ, _+_, _^_, _≤_, _<_}
 use native.Mathlib.Omega.{arith}
@@ -13,7 +13,6 @@ use Rattle.series.proofs.Factorial.{den-is, num-is}
 use Rattle.series.proofs.Falling.{sine-odd-never-falls, sine-even-never-rises}
 use Rattle.series.proofs.Deeper.{Lo-rises, Hi-falls}
 use Rattle.ends.specs.declared.Orbit.{Orbit}
-use Rattle.ends.specs.declared.End.{End}
 use Rattle.ends.specs.Ends.{lowerEnd, upperEnd}
 use Rattle.ends.specs.Entry.{orbitAt, flagged, endRule}
 use Rattle.ends.proofs.Exact as tests
@@ -32,7 +31,7 @@ use Rattle.units.proofs.Enum.{unit-answers}
 use Rattle.units.proofs.Estimate.{passed-within, product-value}
 use Rattle.units.proofs.Laws.{made-rounded}
 use Rattle.claim_file.proofs.LawsOutput as program
-use Rattle.promises.specs.Laws.{Sums, Ends, Searches, Proposals, Estimates, Program, Laws}
+use Rattle.promises.specs.Laws.{Sums, Ends, Searches, Proposals, Estimates, Laws}
 use Rattle.promises.proofs.Demand1.{ends}
 use Rattle.promises.proofs.Ends.{Asked, asked, accepted-says, accepts, declines}
 

@@ -1,7 +1,6 @@
 -- The numbers to hold against, computed from the definitions. Assumes nothing.
-use mathlib.Core.Path.{_≡_, refl}
+use mathlib.Core.Path.{refl}
 use Prim.Native.Nat.{ℕ, _≤_}
-use native.Mathlib.Omega.{arith}
 use borrow.Author.Tests.{le-ltb}
 use lib.Ieee.{ofBits}
 use Rattle.series.specs.Terms.{l, u}

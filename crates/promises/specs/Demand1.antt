@@ -11,21 +11,15 @@ use lib.ListN.{length}
 use Rattle.grid.specs.Codes.{Check, number, done, order, or, m-check, a-check, depth-check, x-check}
 use Rattle.grid.specs.Said.{Said}
 use Rattle.grid.specs.Make.{angleOf, eccentricityOf, depthOf, angleSays, eccentricitySays, depthSays}
-use Rattle.grid.specs.declared.Angle.{Angle}
-use Rattle.grid.specs.declared.Eccentricity.{Eccentricity}
-use Rattle.grid.specs.declared.Depth.{Depth}
 use Rattle.series.specs.Entry.{sineRule}
 use Rattle.series.specs.declared.SineBounds.{SineBounds}
 use Rattle.ends.specs.Entry.{orbitChecks, orbitAt, orbitOf, orbitSays, questionChecks, questionAt, questionOf, questionSays, lowerRule, upperRule}
-use Rattle.ends.specs.declared.Orbit.{Orbit}
-use Rattle.ends.specs.declared.Question.{Question}
 use Rattle.ends.specs.declared.End.{End}
 use Rattle.enclosure.specs.Enclosure.{T-check, enclosureRule}
 use Rattle.enclosure.specs.declared.Enclosure.{Enclosure}
 use Rattle.proposal.specs.Propose.{proposalRule}
 use Rattle.proposal.specs.declared.Proposal.{Proposal}
 use Rattle.units.specs.Units.{estimate-check, unitsOf, unitsSays}
-use Rattle.units.specs.declared.Units.{Units}
 use Rattle.judge.specs.Verdict.{verdictNumber}
 use Rattle.judge.specs.Judge.{claimChecks, caseOf, caseSays, judgeRule}
 use Rattle.judge.specs.declared.Claim.{Claim}
@@ -72,9 +66,6 @@ batchOf claims answers = batchRule twenty (length claims) (length answers)
 abbrev pub Makes : {A : Type 0} → List Check → A → Said A → Type 0
 Makes {A} checks zeros said = Refuses checks (λ (s : Said A). s .code) (λ k. record { code = k; value = zeros }) said
 
-abbrev pub noAngle : Angle
-noAngle = record { units = 0 }
-
 abbrev pub noCase : Case
 noCase = record { o = orbitAt 0 0; u = record { f = 0; c = 0 }; n = 0; d = record { pairs = 0 } }
 
@@ -101,7 +92,7 @@ pub record Demand1 : Type 0 where
   -- R50: the byte of each record
   pub byte : (claims : List ℕ) (i : ℕ) → Refuses (recordChecks claims i) codeOfByte (λ k. k) (answerAt twenty claims i)
   -- R4: the checked constructors, and an estimate in units
-  pub angle : (x : ℕ) → Makes (x-check x ∷ []) noAngle (angleSays (angleOf x))
+  pub angle : (x : ℕ) → Makes (x-check x ∷ []) (record { units = 0 }) (angleSays (angleOf x))
   pub eccentricity : (a : ℕ) → Makes (a-check a ∷ []) (record { units = 0 }) (eccentricitySays (eccentricityOf a))
   pub depth : (d : ℕ) → Makes (depth-check d ∷ []) (record { pairs = 0 }) (depthSays (depthOf d))
   pub orbit : (m a : ℕ) → Makes (orbitChecks m a) (orbitAt 0 0) (orbitSays (orbitOf m a))

@@ -1,7 +1,7 @@
 -- f and c are the floor and the ceiling of the product, they differ by one at most, and neither is above T. Assumes nothing.
 use mathlib.Core.Path.{_≡_, refl, subst}
 use mathlib.Core.Bool.{Bool, true, false, _&&_, true≢false}
-use Prim.Native.Nat.{ℕ, _+_, _*_, _≤_, _<_}
+use Prim.Native.Nat.{ℕ, _*_, _≤_, _<_}
 use native.Mathlib.Nat.{le-of-eq, le-antisymm}
 use native.Mathlib.Omega.{arith}
 use mathlib.Core.List.{[], _∷_}
