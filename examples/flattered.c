@@ -130,7 +130,8 @@ static struct tally run(uint32_t m_limit, uint32_t a_greatest,
 
 static void print_tally(const char *orbits, struct tally tally)
 {
-    printf("\n%s: %lu solved, each to a residual below one unit.\n"
+    printf("\n%s:\n"
+           "  %lu solved, each to a residual below one unit.\n"
            "  Within %d units of the root? %lu Confirmed, %lu Refuted, "
            "%lu Undecided.\n"
            "  Certainly more than %d units off: %lu, the worst by at least "
