@@ -1,28 +1,29 @@
 /*
 ** bench.c: the time of every entry against the plain C version.
 **
-**    bench [NOTE]
+**    bench ROUNDS [NOTE]
 **
-** Both sides run in this one process over the same inputs, in turns, and
-** the fastest of several rounds counts, so that the ratios mean something
-** on a busy machine. NOTE, if given, is printed with the figures. This is a
-** measurement and no test; but both sides must return the same numbers.
+** First both sides must give the same answer to every call. Then both run in
+** this one process over the same inputs, in turns, and the fastest of ROUNDS
+** rounds counts, so that the ratios mean something on a busy machine. NOTE,
+** if given, is printed with the figures.
 */
 #define _POSIX_C_SOURCE 200809L
 #include <stdio.h>
-#include <string.h>
+#include <stdlib.h>
 #include <time.h>
 
+#include "agree.h"
+#include "inputs.h"
 #include "plain.h"
 
-enum { INPUTS = 2048, ROUNDS = 61, DEPTH = 5 };
-
-static uint32_t anomalies[INPUTS], eccentricities[INPUTS], angles[INPUTS];
-static double estimates[INPUTS];
-static uint8_t claims[STRIPEAWN_CLAIM_BYTES * INPUTS];
-
-/* One pass over all inputs; the sum of what was returned. */
+/*
+** One pass over all inputs. It gives a sum of what was returned, and the sum
+** is kept, so that no compiler can leave a call out.
+*/
 typedef uint64_t pass(void);
+
+static volatile uint64_t kept;
 
 /*
 ** The same loop for both sides: CALL gives the sum of one call's numbers
@@ -65,7 +66,7 @@ typedef uint64_t pass(void);
         sum += r.angle + (uint64_t)r.e_sin + (uint64_t)r.e_cos + r.j; }
 #define JUDGE(P)                                                            \
         sum += P##_judge(anomalies[i], eccentricities[i], estimates[i],     \
-                         100, DEPTH).verdict;
+                         TOLERANCE, DEPTH).verdict;
 
 BOTH_SIDES(sine, SINE)
 BOTH_SIDES(lower, LOWER)
@@ -100,44 +101,6 @@ static uint64_t plain_batch_pass(void)
     return sum_of(answers);
 }
 
-/* A fixed sequence of numbers from 0 to the limit (Marsaglia's xorshift). */
-static uint32_t draw(uint32_t limit)
-{
-    static uint64_t state = UINT64_C(88172645463325252);
-
-    state ^= state << 13;
-    state ^= state >> 7;
-    state ^= state << 17;
-    return (uint32_t)((state >> 32) % ((uint64_t)limit + 1));
-}
-
-static void put_claim(uint8_t *record, int i)
-{
-    uint16_t n = 100;
-
-    memcpy(record, &anomalies[i], 4);
-    memcpy(record + 4, &eccentricities[i], 4);
-    memcpy(record + 8, &estimates[i], 8);
-    memcpy(record + 16, &n, 2);
-    record[18] = DEPTH;
-    record[19] = 0;
-}
-
-/* Any orbit, an angle near its root, and an estimate some units off it. */
-static void make_inputs(void)
-{
-    int i;
-
-    for (i = 0; i < INPUTS; i++) {
-        anomalies[i] = draw(STRIPEAWN_M_MAX - 1000);
-        eccentricities[i] = draw(STRIPEAWN_A_MAX);
-        angles[i] =
-            plain_enclose(anomalies[i], eccentricities[i], DEPTH).a + draw(20);
-        estimates[i] = (angles[i] + draw(200)) / 268435456.0;
-        put_claim(claims + STRIPEAWN_CLAIM_BYTES * i, i);
-    }
-}
-
 static double seconds(void)
 {
     struct timespec now;
@@ -146,49 +109,56 @@ static double seconds(void)
     return (double)now.tv_sec + 1e-9 * (double)now.tv_nsec;
 }
 
-/* Runs one pass; keeps the least time so far. */
-static uint64_t timed(pass *side, double *least)
+/* Runs one pass; the lesser of its time and the least so far. */
+static double timed(pass *side, double least)
 {
     double start = seconds(), took;
-    uint64_t sum = side();
 
+    kept = side();
     took = seconds() - start;
-    if (took < *least)
-        *least = took;
-    return sum;
+    return took < least ? took : least;
 }
 
-/* Times both sides in turns and prints a line; 0 where they agree. */
-static int measure(const char *name, pass *library, pass *plain)
+/* Times both sides in turns and prints a line. */
+static void measure(const char *name, pass *library, pass *plain, long rounds)
 {
     double library_least = 1e9, plain_least = 1e9;
-    int round;
+    long round;
 
-    for (round = 0; round < ROUNDS; round++)
-        if (timed(library, &library_least) != timed(plain, &plain_least)) {
-            printf("%-24s the two sides differ\n", name);
-            return 1;
-        }
+    for (round = 0; round < rounds; round++) {
+        library_least = timed(library, library_least);
+        plain_least = timed(plain, plain_least);
+    }
     printf("%-24s %10.1f %10.1f %8.2f\n", name, library_least / INPUTS * 1e9,
            plain_least / INPUTS * 1e9, library_least / plain_least);
-    return 0;
+}
+
+static void measure_all(long rounds)
+{
+    printf("nanoseconds a call at depth 5, least of %ld rounds\n", rounds);
+    printf("%-24s %10s %10s %8s\n", "entry", "library", "plain C", "ratio");
+    measure("sine", library_sine, plain_sine_pass, rounds);
+    measure("lower_end", library_lower, plain_lower_pass, rounds);
+    measure("upper_end", library_upper, plain_upper_pass, rounds);
+    measure("enclose", library_enclose, plain_enclose_pass, rounds);
+    measure("propose", library_propose, plain_propose_pass, rounds);
+    measure("judge", library_judge, plain_judge_pass, rounds);
+    measure("judge_claims, a claim", library_batch, plain_batch_pass, rounds);
 }
 
 int main(int count, char **arguments)
 {
-    int wrong = 0;
+    long rounds = count > 1 ? strtol(arguments[1], NULL, 10) : 0;
 
+    if (rounds < 1) {
+        fprintf(stderr, "usage: bench ROUNDS [NOTE]\n");
+        return 2;
+    }
     make_inputs();
-    if (count > 1)
-        printf("%s\n", arguments[1]);
-    printf("nanoseconds a call at depth 5, least of %d rounds\n", ROUNDS);
-    printf("%-24s %10s %10s %8s\n", "entry", "library", "plain C", "ratio");
-    wrong += measure("sine", library_sine, plain_sine_pass);
-    wrong += measure("lower_end", library_lower, plain_lower_pass);
-    wrong += measure("upper_end", library_upper, plain_upper_pass);
-    wrong += measure("enclose", library_enclose, plain_enclose_pass);
-    wrong += measure("propose", library_propose, plain_propose_pass);
-    wrong += measure("judge", library_judge, plain_judge_pass);
-    wrong += measure("judge_claims, a claim", library_batch, plain_batch_pass);
-    return wrong != 0;
+    if (!sides_agree())
+        return 1;
+    if (count > 2)
+        printf("%s\n", arguments[2]);
+    measure_all(rounds);
+    return 0;
 }

@@ -5,19 +5,22 @@
 
 int main(void)
 {
-    const double radian = STRIPEAWN_RADIAN;
     uint32_t m = 100000000, a = 241591910; /* M = 0.37253 rad, e = 0.9 */
     double estimate = 1.21669;             /* what some solver found */
     struct stripeawn_enclosure e = stripeawn_enclose(m, a, 5);
     struct stripeawn_verdict v = stripeawn_judge(m, a, estimate, 100, 5);
 
-    if (e.code != STRIPEAWN_DONE || v.code != STRIPEAWN_DONE)
+    if (e.code != STRIPEAWN_DONE || v.code != STRIPEAWN_DONE) {
+        fprintf(stderr, "enclose: %s, judge: %s\n", stripeawn_name(e.code),
+                stripeawn_name(v.code));
         return 1;
-    printf("M = %.8f rad, e = %.8f\n", m / radian, a / radian);
-    printf("E lies between %.8f and %.8f rad: %u to %u units\n", e.a / radian,
-           e.b / radian, (unsigned)e.a, (unsigned)e.b);
+    }
+    printf("M = %.8f rad, e = %.8f\n", m * STRIPEAWN_UNIT,
+           (double)a / STRIPEAWN_A_MAX);
+    printf("E lies between %.8f and %.8f rad: %u to %u units\n",
+           e.a * STRIPEAWN_UNIT, e.b * STRIPEAWN_UNIT, (unsigned)e.a,
+           (unsigned)e.b);
     printf("%.8f rad, give or take 100 units: %s\n", estimate,
-           v.verdict == STRIPEAWN_CONFIRMED ? "Confirmed"
-           : v.verdict == STRIPEAWN_REFUTED ? "Refuted" : "Undecided");
+           stripeawn_name(v.verdict));
     return 0;
 }

@@ -19,8 +19,6 @@
 
 enum { ORBITS = 100000, TOLERANCE = 1000, ROWS = 4 };
 
-static const double radian = STRIPEAWN_RADIAN;
-
 /* One orbit, the loop's answer, and what the library says of it. */
 struct row {
     uint32_t m, a;
@@ -56,7 +54,7 @@ static int newton(double m, double e, double *estimate, double *residual)
     for (step = 0; step < 200; step++) {
         *estimate = angle;
         *residual = angle - e * sin(angle) - m;
-        if (fabs(*residual) < 1 / radian)
+        if (fabs(*residual) < STRIPEAWN_UNIT)
             return 1;
         angle -= *residual / (1 - e * cos(angle));
     }
@@ -76,27 +74,27 @@ static int solve(struct row *row)
     struct stripeawn_verdict v;
     double estimate, residual;
 
-    if (!newton(row->m / radian, row->a / radian, &estimate, &residual))
+    if (!newton(row->m * STRIPEAWN_UNIT, (double)row->a / STRIPEAWN_A_MAX,
+                &estimate, &residual))
         return 0;
     row->root = stripeawn_enclose(row->m, row->a, 5);
     v = stripeawn_judge(row->m, row->a, estimate, TOLERANCE, 5);
     if (row->root.code != STRIPEAWN_DONE || v.code != STRIPEAWN_DONE)
         return 0;
     row->verdict = v.verdict;
-    row->estimate = estimate * radian;
-    row->residual = residual * radian;
+    row->estimate = estimate * STRIPEAWN_RADIAN;
+    row->residual = residual * STRIPEAWN_RADIAN;
     row->off = outside(row->estimate, row->root);
     return 1;
 }
 
+/* What is 'at least' so much is rounded down. */
 static void print_row(const struct row *row)
 {
-    static const char *const names[] = { "Confirmed", "Refuted", "Undecided" };
-
     printf("%4u  %9u  %10.1f  %8.3f  %7u to %-7u  %-9s  %7.0f\n",
            (unsigned)row->m, (unsigned)row->a, row->estimate, row->residual,
            (unsigned)row->root.a, (unsigned)row->root.b,
-           names[row->verdict - STRIPEAWN_CONFIRMED], row->off);
+           stripeawn_name(row->verdict), floor(row->off));
 }
 
 /*
@@ -132,14 +130,15 @@ static struct tally run(uint32_t m_limit, uint32_t a_greatest,
 
 static void print_tally(const char *orbits, struct tally tally)
 {
-    printf("\n%s: %lu solved, each to a residual below one unit.\n"
+    printf("\n%s:\n"
+           "  %lu solved, each to a residual below one unit.\n"
            "  Within %d units of the root? %lu Confirmed, %lu Refuted, "
            "%lu Undecided.\n"
            "  Certainly more than %d units off: %lu, the worst by at least "
            "%.0f.\n",
            orbits, tally.solved, TOLERANCE, tally.verdicts[0],
            tally.verdicts[1], tally.verdicts[2], TOLERANCE, tally.far_off,
-           tally.worst.off);
+           floor(tally.worst.off));
 }
 
 int main(void)

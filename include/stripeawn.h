@@ -5,11 +5,11 @@
 ** the circle (e = 0) to the parabolic limit (e = 1). Whatever solver found
 ** an E, this library says what is certain about it.
 **
-** Units. An angle is a whole number of units of 2^-28 radian, some 0.0008
-** arcseconds. The eccentricity is A / 2^28 for a whole number A. M and A are
-** taken as exact: every answer is about the equation with just these two
-** numbers. Rounding another M or e to the grid is the caller's step, and it
-** moves the root.
+** Units. An angle is a whole number of units of 2^-28 radian. One unit is
+** 2.1344e-7 degrees, or 0.00076840 arcseconds. The eccentricity is A / 2^28
+** for a whole number A. M and A are taken as exact: every answer is about
+** the equation with just these two numbers. Rounding another M or e to the
+** grid is the caller's step, and it moves the root.
 **
 ** Ends. A lower end X is accepted when whole-number bounds of sine show that
 ** X - M <= e sin X, so that the root is not below X. An upper end X is
@@ -21,7 +21,8 @@
 ** with S9 and S10 the Taylor sums of sine up to degree 19 and 21. An end
 ** that is not accepted says nothing: a greater depth may accept it.
 **
-** Depth. How many pairs of Taylor terms the bounds use, 1 to 5. What one
+** Depth. How many pairs of Taylor terms the bounds use, 1 to 5. Use depth 5
+** unless you measure: a smaller one may be faster and says less. What one
 ** depth accepts every greater depth accepts. At depth 5 an end is refused
 ** only where its exact inequality fails or has less than 32 e units to
 ** spare. No accepted lower end lies above an accepted upper end of the same
@@ -50,6 +51,12 @@
 extern "C" {
 #endif
 
+/* Version. */
+#define STRIPEAWN_VERSION_MAJOR 0
+#define STRIPEAWN_VERSION_MINOR 1
+#define STRIPEAWN_VERSION_PATCH 0
+#define STRIPEAWN_VERSION "0.1.0"
+
 /* Limits: the greatest value taken. */
 #define STRIPEAWN_M_MAX 843314856u    /* H, the whole part of pi 2^28      */
 #define STRIPEAWN_X_MAX 843314920u    /* T = H + 64, a tested angle        */
@@ -57,7 +64,9 @@ extern "C" {
 #define STRIPEAWN_DEPTH_MAX 5u        /* the least depth is 1              */
 #define STRIPEAWN_N_MAX 65535u        /* tolerance, in units               */
 
+/* Sizes. */
 #define STRIPEAWN_RADIAN 268435456u   /* units in one radian, 2^28         */
+#define STRIPEAWN_UNIT (1.0 / 268435456.0) /* radians in one unit, exact   */
 #define STRIPEAWN_CLAIM_BYTES 20u     /* size of a claim record            */
 
 /*
@@ -84,6 +93,37 @@ extern "C" {
 #define STRIPEAWN_CONFIRMED 16u       /* the root is within N units of it  */
 #define STRIPEAWN_REFUTED 17u         /* the root is more than N units off */
 #define STRIPEAWN_UNDECIDED 18u       /* this depth cannot tell            */
+
+/*
+** stripeawn_name: a code or a verdict in a few words, for messages.
+**
+** Given:
+**    number   a code or a verdict
+** Returned:
+**    its name, or "unknown number" where it is neither; never NULL
+** Notes:
+** 1) Compare numbers and not names, which may be worded otherwise one day.
+*/
+static inline const char *stripeawn_name(uint32_t number)
+{
+    switch (number) {
+    case STRIPEAWN_DONE: return "done";
+    case STRIPEAWN_BAD_M: return "M too large";
+    case STRIPEAWN_BAD_A: return "A too large";
+    case STRIPEAWN_BAD_DEPTH: return "depth not 1 to 5";
+    case STRIPEAWN_BAD_ESTIMATE: return "estimate out of range";
+    case STRIPEAWN_BAD_N: return "N too large";
+    case STRIPEAWN_NO_UPPER_END: return "no upper end at this depth";
+    case STRIPEAWN_BAD_LENGTH: return "claims length no multiple of 20";
+    case STRIPEAWN_SHORT_ANSWERS: return "answers buffer too short";
+    case STRIPEAWN_BAD_RESERVED: return "reserved byte not zero";
+    case STRIPEAWN_BAD_X: return "angle X too large";
+    case STRIPEAWN_CONFIRMED: return "Confirmed";
+    case STRIPEAWN_REFUTED: return "Refuted";
+    case STRIPEAWN_UNDECIDED: return "Undecided";
+    default: return "unknown number";
+    }
+}
 
 /* Results. */
 struct stripeawn_bounds {
@@ -250,6 +290,14 @@ struct stripeawn_proposal stripeawn_propose(uint32_t m, uint32_t a);
 ** 4) A wider tolerance may lose a verdict: M = 0, e = 1, estimate 0 is
 **    Confirmed at n = 0 and Undecided at n = 1. The verdict at n = 0 is
 **    still true, and so the root is within 1 unit too.
+** 5) After Undecided the enclosure may still decide. Let e be what
+**    stripeawn_enclose gives for the same m and a, with code 0 at any depth,
+**    and x = estimate * STRIPEAWN_RADIAN, which is exact in doubles. Since
+**    the root is not below e.a and not above e.b, it is certainly
+**        more than n units off    if x < e.a - n or x > e.b + n
+**        at most n units off      if x >= e.b - n and x <= e.a + n
+**    Take these four limits as doubles, where they are exact: in unsigned
+**    numbers e.a - n and e.b - n may wrap around.
 */
 struct stripeawn_verdict stripeawn_judge(uint32_t m, uint32_t a,
                                          double estimate, uint32_t n,
@@ -281,8 +329,8 @@ struct stripeawn_verdict stripeawn_judge(uint32_t m, uint32_t a,
 ** 3) Bytes of answers from count on stay as they were; with code 7 or 8 all
 **    of them do. Zero claims: count 0, nothing written.
 ** 4) Both pointers must be valid for their lengths, which are at most
-**    PTRDIFF_MAX, and must not be NULL: for length 0 pass any other pointer.
-**    They need no alignment.
+**    PTRDIFF_MAX. With length 0 a pointer may be NULL, as that of an empty
+**    std::vector is. They need no alignment.
 ** 5) The buffers must not overlap. During the call no other thread may write
 **    claims, or read or write answers.
 */

@@ -2,7 +2,9 @@
 # and has what they share: messages, the kit, the compiler, the archive.
 #
 # The library is compiled for x86-64. On another processor its callers are
-# cross-compiled, linked statically, and run under the kit's emulator.
+# cross-compiled and run under the kit's emulator, with the loader and the
+# shared libraries that come with the cross compiler. They are not linked
+# statically, since the cross libm.a names files by their x86-64 paths.
 
 set -eu
 
@@ -23,18 +25,17 @@ find_kit() {
     kit=$(dirname -- "$(dirname -- "$(readlink -f "$rt")")")
 }
 
-# Sets cc, cxx, link (flags for every link), emulator and the packages that
-# bring the compilers.
+# Sets cc, cxx, emulator and the packages that bring the compilers.
 choose_target() {
     find_kit
     machine=$(uname -m)
     case $machine in
     x86_64)
-        cc=gcc cxx=g++ link='' emulator=''
+        cc=gcc cxx=g++ emulator=''
         cc_packages='gcc libc6-dev' cxx_packages='g++ libc6-dev'
         ;;
     aarch64)
-        cc=x86_64-linux-gnu-gcc cxx=x86_64-linux-gnu-g++ link=-static
+        cc=x86_64-linux-gnu-gcc cxx=x86_64-linux-gnu-g++
         emulator=$kit/on/aarch64/toolchain/bin/qemu-x86_64
         cc_packages='gcc-x86-64-linux-gnu libc6-dev-amd64-cross'
         cxx_packages='g++-x86-64-linux-gnu libc6-dev-amd64-cross'
@@ -63,24 +64,71 @@ need() {
     command -v "$1" >/dev/null || die "$1 is missing: install the package $2"
 }
 
-# Whether a compiler makes a program that the C library's headers serve.
-compiles() { # COMPILER LANGUAGE
+# compile_c PROGRAM WORDS.. and compile_cxx: the one place that has the flags
+# of programs, so that a probe of the compiler meets what they will meet.
+compile_c() {
+    program=$1
+    shift
+    "$cc" -std=c11 -Wall -Wextra -Werror -pedantic -Iinclude "$@" \
+        -lm -pthread -o "$program"
+}
+
+compile_cxx() {
+    program=$1
+    shift
+    "$cxx" -std=c++11 -Wall -Wextra -Werror -pedantic -Iinclude "$@" \
+        -o "$program"
+}
+
+# Small programs that use the libraries: mathematics, the C++ library.
+probe_c() {
+    printf '#include <%s.h>\n' math pthread stdio
+    echo 'int main(int n, char **w) { return sin(n) > 1 || puts(*w) < 0; }'
+}
+
+probe_cxx() {
+    echo '#include <vector>'
+    echo 'int main() { return std::vector<int>(1).back(); }'
+}
+
+# find_libraries COMPILER: tells the emulator where loader and libraries are,
+# which is one folder above that of the cross compiler's C library.
+find_libraries() {
+    [ -n "$emulator" ] || return 0
+    libc=$("$1" -print-file-name=libc.so.6)
+    if [ ! -f "$libc" ]; then
+        echo "$1 has no shared C library"
+        return 1
+    fi
+    QEMU_LD_PREFIX=$(readlink -f "$(dirname -- "$libc")/..")
+    export QEMU_LD_PREFIX
+}
+
+# makes_programs COMPILER LANGUAGE: whether they link and run, with what
+# stood in the way in target/probe.log.
+makes_programs() {
     mkdir -p target
-    # shellcheck disable=SC2086
-    printf '#include <stdio.h>\nint main(void) { return puts("") < 0; }\n' |
-        "$1" -x "$2" - $link -o target/probe >/dev/null 2>&1
+    rm -f target/probe
+    {
+        "probe_$2" >"target/probe.$2" &&
+            "compile_$2" target/probe "target/probe.$2" &&
+            find_libraries "$1" && run target/probe
+    } >target/probe.log 2>&1
 }
 
 # need_compiler COMPILER LANGUAGE PACKAGES
 need_compiler() {
-    compiles "$1" "$2" && return
+    makes_programs "$1" "$2" && return
     # shellcheck disable=SC2086
     install_packages $3 || true
-    compiles "$1" "$2" || die "$1 is missing or makes no programs: install the packages $3"
+    makes_programs "$1" "$2" && return
+    cat target/probe.log >&2
+    [ -f target/probe ] || die "$1 is missing or links no programs: install the packages $3"
+    die "programs that $1 links do not run here: install the packages $3"
 }
 
 need_cc() { need_compiler "$cc" c "$cc_packages"; }
-need_cxx() { need_compiler "$cxx" c++ "$cxx_packages"; }
+need_cxx() { need_compiler "$cxx" cxx "$cxx_packages"; }
 
 # The archive is there and no older than any source of the library.
 need_archive() {
@@ -90,14 +138,15 @@ need_archive() {
     fi
 }
 
-# link_c PROGRAM WORDS..: a C program over the library, its warnings errors.
+# link_c PROGRAM WORDS.. and link_cxx: a program over the library.
 link_c() {
-    program=$1
-    shift
-    mkdir -p "$(dirname "$program")"
-    # shellcheck disable=SC2086
-    "$cc" -std=c11 -Wall -Wextra -Werror -pedantic -Iinclude "$@" "$archive" \
-        $link -lm -pthread -o "$program"
+    mkdir -p "$(dirname "$1")"
+    compile_c "$@" "$archive"
+}
+
+link_cxx() {
+    mkdir -p "$(dirname "$1")"
+    compile_cxx "$@" "$archive"
 }
 
 # run PROGRAM WORDS..: under the emulator where there is one.

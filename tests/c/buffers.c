@@ -100,6 +100,37 @@ static void test_empty(void)
     check(HERE, got.code == 7 && got.count == 0, "one byte of claims");
 }
 
+/* Nothing to answer and a painted byte that must stay so. */
+static void nothing_answered(struct place at, const uint8_t *claims,
+                             size_t claims_len, uint8_t *answers,
+                             size_t answers_len, uint32_t code)
+{
+    struct stripeawn_batch got =
+        stripeawn_judge_claims(claims, claims_len, answers, answers_len);
+
+    check(at, got.code == code && got.count == 0,
+          "code %lu count %llu, wanted %lu and 0", (unsigned long)got.code,
+          (unsigned long long)got.count, (unsigned long)code);
+    check(at, answers == NULL || *answers == PAINT, "an answer was written");
+}
+
+/* With length 0 either pointer may be NULL, or both. */
+static void test_null(void)
+{
+    uint8_t claims[40], answer = PAINT;
+
+    memset(claims, 0, sizeof claims);
+    nothing_answered(HERE, NULL, 0, NULL, 0, 0);
+    nothing_answered(HERE, NULL, 0, &answer, 0, 0);
+    nothing_answered(HERE, NULL, 0, &answer, 1, 0);
+    nothing_answered(HERE, claims, 0, NULL, 0, 0);
+    nothing_answered(HERE, claims, 1, NULL, 0, 7);
+    nothing_answered(HERE, claims, 19, NULL, 0, 7);
+    nothing_answered(HERE, claims, 20, NULL, 0, 8);
+    nothing_answered(HERE, claims, 21, NULL, 0, 7);
+    nothing_answered(HERE, claims, 40, NULL, 0, 8);
+}
+
 /*
 ** A buffer between two stretches of memory that cannot be touched; the
 ** stretches are 64 KiB, which is a whole number of pages on any machine.
@@ -163,6 +194,7 @@ void test_buffers(void)
     test_lengths();
     test_refusal_before_records();
     test_empty();
+    test_null();
     test_guarded();
     test_unaligned();
 }

@@ -61,9 +61,11 @@ void put_claim(uint8_t *record, uint32_t m, uint32_t a, double estimate,
 void test_header(void);
 void test_sine(void);
 void test_ends(void);
+void test_top(void);
 void test_enclose(void);
 void test_propose(void);
 void test_judge(void);
+void test_undecided(void);
 void test_estimates(void);
 void test_order(void);
 void test_batch(void);

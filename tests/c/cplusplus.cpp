@@ -1,22 +1,107 @@
 // cplusplus.cpp: the header in a C++ program, with a call of every entry.
+// Every code is held to the one that is due, 0 or another.
+#include <cstdio>
+#include <cstring>
+#include <vector>
+
 #include "stripeawn.h"
+
+typedef std::vector<uint8_t> bytes;
+
+static int failed = 0;
+
+// One call: its code, and whether its numbers are right.
+static void check(const char *call, uint32_t code, uint32_t due, bool right)
+{
+    if (code == due && right)
+        return;
+    failed++;
+    std::printf("cplusplus.cpp: FAILED: %s: code %lu (%s)\n", call,
+                static_cast<unsigned long>(code), stripeawn_name(code));
+}
+
+// Every entry with numbers, answered.
+static void answered()
+{
+    stripeawn_bounds s = stripeawn_sine(1, 1);
+    stripeawn_end l = stripeawn_lower_end(0, 0, 0, 1);
+    stripeawn_end u = stripeawn_upper_end(1, 2, 0, 1);
+    stripeawn_enclosure e = stripeawn_enclose(7, 0, 5);
+    stripeawn_proposal p = stripeawn_propose(1, STRIPEAWN_A_MAX);
+    stripeawn_verdict v = stripeawn_judge(7, 0, 7 * STRIPEAWN_UNIT, 0, 5);
+
+    check("sine", s.code, 0, s.lo == 0 && s.hi == 2);
+    check("lower_end", l.code, 0, l.accepted == 1);
+    check("upper_end", u.code, 0, u.accepted == 0);
+    check("enclose", e.code, 0, e.a == 7 && e.b == 7);
+    check("propose", p.code, 0, p.angle == 1048514 && p.e_sin == 1048514 &&
+                                    p.e_cos == 268433424 && p.j == 19);
+    check("judge", v.code, 0, v.verdict == STRIPEAWN_CONFIRMED);
+}
+
+// The same entries, refused.
+static void refused()
+{
+    const uint32_t m = STRIPEAWN_M_MAX, x = STRIPEAWN_X_MAX;
+    stripeawn_bounds s = stripeawn_sine(x + 1, 1);
+    stripeawn_end l = stripeawn_lower_end(x + 1, m, 0, 1);
+    stripeawn_end u = stripeawn_upper_end(x, m + 1, 0, 1);
+    stripeawn_enclosure e = stripeawn_enclose(m, STRIPEAWN_A_MAX, 1);
+    stripeawn_proposal p = stripeawn_propose(m, STRIPEAWN_A_MAX + 1);
+    stripeawn_verdict v = stripeawn_judge(m, 0, -1.0, 0, 5);
+
+    check("bad sine", s.code, 10, s.lo == 0 && s.hi == 0);
+    check("bad lower_end", l.code, 10, l.accepted == 0);
+    check("bad upper_end", u.code, 1, u.accepted == 0);
+    check("bad enclose", e.code, 6, e.a == 0 && e.b == 0);
+    check("bad propose", p.code, 2, p.angle == 0 && p.e_sin == 0 &&
+                                        p.e_cos == 0 && p.j == 0);
+    check("bad judge", v.code, 4, v.verdict == 0);
+}
+
+// A batch over whole vectors; the data of an empty one may be NULL.
+static void batch(const char *call, const bytes &claims, bytes &answers,
+                  uint32_t due, const bytes &wanted)
+{
+    stripeawn_batch b = stripeawn_judge_claims(claims.data(), claims.size(),
+                                               answers.data(),
+                                               answers.size());
+    uint64_t count = due == 0 ? claims.size() / STRIPEAWN_CLAIM_BYTES : 0;
+
+    check(call, b.code, due, b.count == count && answers == wanted);
+}
+
+static void batches()
+{
+    const bytes none, painted(3, 0xA5);
+    bytes claims(2 * STRIPEAWN_CLAIM_BYTES), empty, room = painted, due;
+
+    claims[18] = 1; // a depth in the first record, none in the second
+    due.push_back(STRIPEAWN_CONFIRMED);
+    due.push_back(STRIPEAWN_BAD_DEPTH);
+    due.push_back(0xA5);
+    batch("no claims, no room", none, empty, 0, none);
+    batch("no claims", none, room, 0, painted);
+    batch("no room", claims, empty, 8, none);
+    batch("two claims", claims, room, 0, due);
+    claims.pop_back();
+    room = painted;
+    batch("cut claims, no room", claims, empty, 7, none);
+    batch("cut claims", claims, room, 7, painted);
+}
+
+static void names()
+{
+    check("name", 0, 0, std::strcmp(stripeawn_name(16), "Confirmed") == 0);
+    check("no name", 0, 0,
+          std::strcmp(stripeawn_name(11), "unknown number") == 0);
+}
 
 int main()
 {
-    const uint8_t claim[STRIPEAWN_CLAIM_BYTES] = { 0, 0, 0, 0, 0, 0, 0,
-        0, 0, 0, 0, 0, 0, 0, 0, 0, 0, 0, 1, 0 };
-    uint8_t answer = 0;
-    int wrong = 0;
-
-    wrong += stripeawn_sine(1, 1).hi != 2;
-    wrong += stripeawn_lower_end(0, 0, 0, 1).accepted != 1;
-    wrong += stripeawn_upper_end(1, 2, 0, 1).accepted != 0;
-    wrong += stripeawn_enclose(7, 0, 5).b != 7;
-    wrong += stripeawn_propose(STRIPEAWN_M_MAX + 1, 0).code !=
-             STRIPEAWN_BAD_M;
-    wrong += stripeawn_judge(0, 0, 0.0, 0, 5).verdict != STRIPEAWN_CONFIRMED;
-    wrong += stripeawn_judge_claims(claim, sizeof claim, &answer, 1).count !=
-             1;
-    wrong += answer != STRIPEAWN_CONFIRMED;
-    return wrong;
+    answered();
+    refused();
+    batches();
+    names();
+    return failed != 0;
 }

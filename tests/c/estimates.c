@@ -76,7 +76,7 @@ static void test_on_and_off_grid(void)
 }
 
 /* T units are taken and the next double is not. */
-static void test_top(void)
+static void test_greatest(void)
 {
     uint64_t top = to_bits(units(T));
 
@@ -135,7 +135,7 @@ void test_estimates(void)
     test_zeros();
     test_subnormals();
     test_on_and_off_grid();
-    test_top();
+    test_greatest();
     test_large();
     test_below_zero();
     test_nans();

@@ -1,7 +1,10 @@
 /*
-** header.c: the numbers that the header names, and the layout of results.
+** header.c: the numbers that the header names, their names in words, and the
+** layout of results.
 */
 #include <stddef.h>
+#include <stdio.h>
+#include <string.h>
 
 #include "check.h"
 
@@ -40,6 +43,67 @@ static void test_codes(void)
     named(HERE, STRIPEAWN_UNDECIDED, 18);
 }
 
+/* One unit and one radian, exact, each from the other. */
+static void test_unit(void)
+{
+    check(HERE, STRIPEAWN_UNIT * STRIPEAWN_RADIAN == 1.0,
+          "a radian's units make %a radian",
+          STRIPEAWN_UNIT * STRIPEAWN_RADIAN);
+    check(HERE, to_bits(STRIPEAWN_UNIT) == UINT64_C(0x3E30000000000000),
+          "a unit is %a radian", STRIPEAWN_UNIT);
+    check(HERE, 100 * STRIPEAWN_UNIT == units(100), "100 units");
+}
+
+static void test_version(void)
+{
+    char version[40];
+
+    snprintf(version, sizeof version, "%d.%d.%d", STRIPEAWN_VERSION_MAJOR,
+             STRIPEAWN_VERSION_MINOR, STRIPEAWN_VERSION_PATCH);
+    check(HERE, strcmp(STRIPEAWN_VERSION, version) == 0,
+          "version %s, in numbers %s", STRIPEAWN_VERSION, version);
+}
+
+/* Names of 0 to 18; what is neither code nor verdict has none. */
+static const char *const names[] = {
+    "done",
+    "M too large",
+    "A too large",
+    "depth not 1 to 5",
+    "estimate out of range",
+    "N too large",
+    "no upper end at this depth",
+    "claims length no multiple of 20",
+    "answers buffer too short",
+    "reserved byte not zero",
+    "angle X too large",
+    NULL, NULL, NULL, NULL, NULL,
+    "Confirmed",
+    "Refuted",
+    "Undecided",
+};
+
+static void name_is(struct place at, uint32_t number, const char *wanted)
+{
+    const char *got = stripeawn_name(number);
+
+    check(at, got != NULL && strcmp(got, wanted) == 0,
+          "the name of %lu is '%s', wanted '%s'", (unsigned long)number,
+          got != NULL ? got : "NULL", wanted);
+}
+
+static void test_names(void)
+{
+    static const uint32_t others[] = { 19, 20, 255, 256, 272, 65536 + 16,
+                                       UINT32_C(0x80000000), FAR };
+    uint32_t i;
+
+    for (i = 0; i < COUNT(names); i++)
+        name_is(HERE, i, names[i] != NULL ? names[i] : "unknown number");
+    for (i = 0; i < COUNT(others); i++)
+        name_is(HERE, others[i], "unknown number");
+}
+
 /* The library is compiled apart: fields must stand where it writes them. */
 static void test_layout(void)
 {
@@ -66,5 +130,8 @@ void test_header(void)
 {
     test_limits();
     test_codes();
+    test_unit();
+    test_version();
+    test_names();
     test_layout();
 }

@@ -8,9 +8,11 @@ int main(void)
     test_header();
     test_sine();
     test_ends();
+    test_top();
     test_enclose();
     test_propose();
     test_judge();
+    test_undecided();
     test_estimates();
     test_order();
     test_batch();

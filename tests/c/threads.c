@@ -1,7 +1,10 @@
 /*
 ** threads.c: every entry from several threads at once, each on a stack of
-** 64 KiB, as the header allows.
+** 64 KiB, as the header allows, or of the least that the system allows where
+** that is more.
 */
+#define _GNU_SOURCE /* for PTHREAD_STACK_MIN, which need not be a constant */
+#include <limits.h>
 #include <pthread.h>
 
 #include "check.h"
@@ -55,6 +58,13 @@ static int same(const struct totals *s, const struct totals *t)
            s->verdicts == t->verdicts && s->answers == t->answers;
 }
 
+static size_t stack_size(void)
+{
+    long least = PTHREAD_STACK_MIN;
+
+    return least > STACK ? (size_t)least : STACK;
+}
+
 void test_threads(void)
 {
     struct totals alone, totals[THREADS];
@@ -66,8 +76,8 @@ void test_threads(void)
     check(HERE, alone.answers == alone.verdicts && alone.answers > 0,
           "batch and judge differ");
     pthread_attr_init(&small);
-    check(HERE, pthread_attr_setstacksize(&small, STACK) == 0,
-          "no stack of 64 KiB");
+    check(HERE, pthread_attr_setstacksize(&small, stack_size()) == 0,
+          "no stack of %lu bytes", (unsigned long)stack_size());
     while (started < THREADS && pthread_create(&threads[started], &small, run,
                                                &totals[started]) == 0)
         started++;

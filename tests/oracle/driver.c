@@ -35,14 +35,17 @@ static void write_bytes(const void *bytes, size_t count)
         fail("cannot write");
 }
 
-/* A buffer with the next bytes of the input; never NULL. */
+/* A buffer with the next bytes of the input; NULL for none, as is allowed. */
 static uint8_t *read_buffer(size_t count)
 {
-    uint8_t *buffer = malloc(count > 0 ? count : 1);
+    uint8_t *buffer;
 
+    if (count == 0)
+        return NULL;
+    buffer = malloc(count);
     if (buffer == NULL)
         fail("no memory");
-    if (count > 0 && fread(buffer, 1, count, stdin) != count)
+    if (fread(buffer, 1, count, stdin) != count)
         fail("a batch request ends too early");
     return buffer;
 }

@@ -15,6 +15,9 @@ import edges
 import page
 import records
 
+# How long a program may take that has nothing to wait for.
+SECONDS = 20
+
 
 def files():
     """Names and contents: whole, damaged, truncated, and each length around
@@ -43,25 +46,47 @@ def stored():
                answers.read_bytes() if answers.exists() else b"")
 
 
+def compare_files(command):
+    """A sentence for each file, empty where the answers are right."""
+    for name, data in files():
+        done = subprocess.run(command, input=data, stdout=subprocess.PIPE,
+                              check=True)
+        wanted = records.program(data)
+        yield "" if done.stdout == wanted else (
+            f"{name}: {len(done.stdout)} bytes, wanted {len(wanted)}")
+    for name, data, answers in stored():
+        yield "" if answers == records.program(data) else (
+            f"the stored answers of {name}")
+
+
+def compare_open_pipe(command):
+    """The like for the least input that is too long, on a pipe that stays
+    open: there is nothing more to wait for."""
+    data = bytes(records.PROGRAM_BYTES + 1)
+    with subprocess.Popen(command, stdin=subprocess.PIPE,
+                          stdout=subprocess.PIPE) as program:
+        program.stdin.write(data)
+        program.stdin.flush()
+        try:
+            program.wait(timeout=SECONDS)
+        except subprocess.TimeoutExpired:
+            program.kill()
+            yield f"still waiting {SECONDS} s after {len(data):,} bytes"
+            return
+        written = program.stdout.read()
+        yield f"{len(data):,} bytes are answered" if written else ""
+
+
 def main(command):
     if not command:
         print(__doc__, file=sys.stderr)
         return 2
-    compared = wrong = 0
-    for name, data in files():
-        done = subprocess.run(command, input=data, stdout=subprocess.PIPE,
-                              check=True)
-        compared += 1
-        if done.stdout != records.program(data):
-            wrong += 1
-            print(f"program: DIFFERENT: {name}: {len(done.stdout)} bytes, "
-                  f"wanted {len(records.program(data))}")
-    for name, data, answers in stored():
-        compared += 1
-        if answers != records.program(data):
-            wrong += 1
-            print(f"program: DIFFERENT: the stored answers of {name}")
-    print(f"program: {compared} files of claims compared, {wrong} differences")
+    found = [*compare_files(command), *compare_open_pipe(command)]
+    wrong = [sentence for sentence in found if sentence]
+    for sentence in wrong:
+        print(f"program: DIFFERENT: {sentence}")
+    print(f"program: {len(found)} files of claims compared, {len(wrong)} "
+          "differences")
     return 1 if wrong else 0
 
 

@@ -1,0 +1,10 @@
+/*
+** agree.h: whether both sides of the benchmark give the same answers.
+*/
+#ifndef AGREE_H
+#define AGREE_H
+
+/* Compares them over all inputs and prints the differences; 1 if none. */
+int sides_agree(void);
+
+#endif

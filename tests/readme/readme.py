@@ -1,0 +1,103 @@
+"""Holds README.md to the repository and to what scripts/run prints.
+
+    python3 readme.py README RUN
+
+RUN is a file with the output of scripts/run. Any difference is printed, and
+the exit status is then 1.
+"""
+import difflib
+import os
+import re
+import sys
+from pathlib import Path
+
+LEFT_OUT = "..."
+FOLDERS = "scripts|examples|docs|include|tests|bench|crates"
+
+
+def blocks(text, language):
+    """The lines of each fenced block in that language."""
+    found = re.findall(rf"^```{language}\n(.*?)^```$", text, re.M | re.S)
+    return [block.splitlines() for block in found]
+
+
+def sections(output):
+    """What scripts/run prints below each of its headings, by heading."""
+    parts = re.split(r"^\n-- (.*)\n", "\n" + output, flags=re.M)
+    return {heading: part.splitlines()
+            for heading, part in zip(parts[1::2], parts[2::2])}
+
+
+def shows(shown, real):
+    """Whether the shown lines are the real ones in order, where a line '...'
+    stands for one or more that are left out."""
+    if not shown:
+        return not real
+    if shown[0] == LEFT_OUT:
+        return any(shows(shown[1:], real[skip:])
+                   for skip in range(1, len(real) + 1))
+    return shown[:1] == real[:1] and shows(shown[1:], real[1:])
+
+
+def held(name, shown, real, may_leave_out=False):
+    """Sentences where a block is not what it should be."""
+    if shown == real or (may_leave_out and shows(shown, real)):
+        return
+    yield f"the block of {name} is not the real one:"
+    yield from difflib.unified_diff(shown, real, "README.md", name, "", "", 3,
+                                    "")
+
+
+def check_blocks(text, output):
+    """The code block is the first example; the blocks of output are those of
+    both examples, of which the second may leave rows out."""
+    shell, code, printed = (blocks(text, language)
+                            for language in ("sh", "c", "text"))
+    if (len(shell), len(code), len(printed), text.count("```")) != (1, 1, 2, 8):
+        yield "there are other blocks than one sh, one c and two text"
+        return
+    first, second = "examples/first.c", "examples/flattered.c"
+    yield from held(first, code[0], Path(first).read_text().splitlines())
+    run = sections(output)
+    yield from held(f"{first}'s output", printed[0], run.get(first, []))
+    yield from held(f"{second}'s output", printed[1], run.get(second, []),
+                    True)
+
+
+def check_run(output):
+    """scripts/run ends with the answers to its two claims."""
+    headings = list(sections(output).items())
+    if not headings or [line.split() for line in headings[-1][1]] != [
+            ["16", "18"]]:
+        yield "scripts/run does not end with the answers 16 and 18"
+
+
+def check_names(text):
+    """Files, commands and the header's names are there."""
+    header = Path("include/stripeawn.h").read_text()
+    files = re.findall(rf"\b(?:{FOLDERS})/[\w./-]*\w", text)
+    files += re.findall(r"\]\(([^)]*)\)", text)
+    for name in sorted(set(files)):
+        if not Path(name).is_file():
+            yield f"no file {name}"
+        elif name.startswith("scripts/") and not os.access(name, os.X_OK):
+            yield f"{name} is no command"
+    for name in sorted(set(re.findall(r"\bstripeawn_\w+", text, re.I))):
+        if not re.search(rf"\b{name}\b", header):
+            yield f"the header has no {name}"
+
+
+def main(arguments):
+    if len(arguments) != 2:
+        print(__doc__, file=sys.stderr)
+        return 2
+    text, output = (Path(name).read_text() for name in arguments)
+    wrong = [*check_blocks(text, output), *check_run(output),
+             *check_names(text)]
+    for sentence in wrong:
+        print(f"readme: {sentence}")
+    return 1 if wrong else 0
+
+
+if __name__ == "__main__":
+    sys.exit(main(sys.argv[1:]))
