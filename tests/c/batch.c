@@ -6,7 +6,7 @@
 #include "check.h"
 
 /* Two claims as bytes: all zero at depth 1, and a flattered guess. */
-static const uint8_t page_batch[40] = {
+static const uint8_t stated_batch[40] = {
     0, 0, 0, 0, 0, 0, 0, 0, 0, 0, 0, 0, 0, 0, 0, 0, 0, 0, 0x01, 0,
     0, 0, 0, 0, 0, 0, 0, 0x10, 0, 0, 0, 0, 0, 0, 0x60, 0x3F,
     0xE8, 0x03, 0x05, 0
@@ -21,11 +21,11 @@ static void batch_is(struct place at, struct stripeawn_batch got,
           (unsigned long)code, (unsigned long long)count);
 }
 
-static void test_page_numbers(void)
+static void test_stated_numbers(void)
 {
     uint8_t answers[4] = { 0xEE, 0xEE, 0xEE, 0xEE };
 
-    batch_is(HERE, stripeawn_judge_claims(page_batch, 40, answers, 4), 0, 2);
+    batch_is(HERE, stripeawn_judge_claims(stated_batch, 40, answers, 4), 0, 2);
     check(HERE, answers[0] == 0x10 && answers[1] == 0x12,
           "answers %02x %02x, wanted 10 12", answers[0], answers[1]);
     check(HERE, answers[2] == 0xEE && answers[3] == 0xEE,
@@ -114,7 +114,7 @@ static void test_like_the_judge(void)
 
 void test_batch(void)
 {
-    test_page_numbers();
+    test_stated_numbers();
     test_byte_order();
     test_tolerance_and_eccentricity_bytes();
     test_like_the_judge();

@@ -4,7 +4,7 @@
 #include "check.h"
 
 /* A = 2^28, X = 2^28: the M at which each test turns. */
-static void test_page_numbers(void)
+static void test_stated_numbers(void)
 {
     lower_is(HERE, ONE, 42554811, ONE, 5, 0, 1);
     lower_is(HERE, ONE, 42554810, ONE, 5, 0, 0);
@@ -85,7 +85,7 @@ static void test_limits(void)
 
 void test_ends(void)
 {
-    test_page_numbers();
+    test_stated_numbers();
     test_circle();
     test_outer_ends();
     test_broken_run();

@@ -3,7 +3,7 @@
 */
 #include "check.h"
 
-static void test_page_numbers(void)
+static void test_stated_numbers(void)
 {
     uint32_t depth;
 
@@ -78,7 +78,7 @@ static void test_shape(void)
 
 void test_sine(void)
 {
-    test_page_numbers();
+    test_stated_numbers();
     test_best_so_far();
     test_signs_at_the_top();
     test_limits();

@@ -15,9 +15,9 @@ from multiprocessing import Pool
 import cases
 import demands
 import edges
-import page
 import records
 import rules
+import stated
 import wire
 
 PROCESSES = 2
@@ -55,9 +55,9 @@ def compare(driver, calls):
     return Counter(wire.NAMES[call.entry] for call in calls), faults
 
 
-def compare_page(driver):
-    """The page's own numbers, held against the rules here and the library."""
-    calls, wanted = zip(*page.stated())
+def compare_stated(driver):
+    """The stated numbers, held against the rules here and the library."""
+    calls, wanted = zip(*stated.stated())
     faults = []
     for call, answer, got in zip(calls, wanted, wire.ask(driver, calls)):
         faults += differences(call, answer, got)
@@ -81,8 +81,8 @@ def work(piece):
     """One piece of work: its group, what it counted, what it found wrong."""
     driver, seed, group, kind, number, count = piece
     rng = random.Random(f"{seed} {group} {kind} {number}")
-    if group == "page":
-        return group, *compare_page(driver)
+    if group == "stated":
+        return group, *compare_stated(driver)
     if group == "edge":
         return group, *compare(driver, edges.KINDS[kind]())
     if group == "exact":
@@ -92,7 +92,7 @@ def work(piece):
 
 
 def pieces(driver, seed):
-    yield driver, seed, "page", "", 0, 0
+    yield driver, seed, "stated", "", 0, 0
     for kind in edges.KINDS:
         yield driver, seed, "edge", kind, 0, 0
     for group, kinds in (("random", cases.KINDS), ("exact", demands.KINDS)):
@@ -110,9 +110,9 @@ def report(totals, faults, seconds):
     if len(faults) > SHOWN:
         print(f"compare: and {len(faults) - SHOWN:,} more")
     drawn, edge, stated, facts = (sum(totals[group].values()) for group in
-                                  ("random", "edge", "page", "exact"))
+                                  ("random", "edge", "stated", "exact"))
     print(f"compare: {drawn:,} random cases, {edge:,} edge cases, {stated} "
-          f"numbers of the page and {facts:,} exact facts in {seconds} s: "
+          f"stated numbers and {facts:,} exact facts in {seconds} s: "
           f"{len(faults):,} differences")
 
 

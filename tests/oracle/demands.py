@@ -12,12 +12,17 @@ from rules import DEPTHS, T
 
 
 def sums(_ask, rng, count):
-    """The fast sums are the page's sums."""
+    """R8, R9: the fast sums are the sums by terms, odd ones never fall and
+    even ones never rise."""
     for _ in range(count):
         x = cases.angle(rng)
+        found = [exact.sum_by_terms(x, n) for n in range(13)]
         for n in (9, 10):
             fast = exact.Fraction(*exact.scaled_sum(x, n))
-            yield fast == exact.sum_by_terms(x, n), f"S_{n} at X={x}"
+            yield fast == found[n], f"S_{n} at X={x}"
+        for n, (this, after) in enumerate(zip(found, found[2:])):
+            yield (this <= after if n % 2 else this >= after,
+                   f"S_{n} and S_{n + 2} at X={x}")
 
 
 def sines(ask, rng, count):

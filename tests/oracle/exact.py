@@ -1,7 +1,6 @@
 """The exact Taylor sums of sine, and the inequalities that an end must meet.
 
-"S_n is the exact sum of terms 0 to n, as a fraction; S_n(X) is the sum at
-x = X / 2^28." Inequalities are multiplied out, so that they compare whole
+R8, R14, R19, R20. Inequalities are multiplied out, so that they compare whole
 numbers of any size.
 """
 from fractions import Fraction
@@ -11,8 +10,7 @@ from rules import UNIT
 
 
 def sum_by_terms(x, n):
-    """2^28 S_n(X), term by term: t_0 = x, t_k = t_(k-1) x^2 / (2k(2k+1)), in
-    an alternating sum."""
+    """R8: 2^28 S_n(X), term by term."""
     point = Fraction(x, UNIT)
     term = total = point
     for k in range(1, n + 1):
@@ -33,14 +31,14 @@ def scaled_sum(x, n):
 
 
 def lower_spare(x, m, a):
-    """What X - M <= e 2^28 S_9(X) has to spare, in units: a numerator, and
-    the denominator, which is above zero."""
+    """R19: what a lower end's inequality has to spare, in units: a numerator,
+    and the denominator, which is above zero."""
     numerator, denominator = scaled_sum(x, 9)
     return (a * numerator - UNIT * denominator * (x - m), UNIT * denominator)
 
 
 def upper_spare(x, m, a):
-    """What X - M >= e 2^28 S_10(X) has to spare, likewise."""
+    """R19: what an upper end's inequality has to spare, likewise."""
     numerator, denominator = scaled_sum(x, 10)
     return (UNIT * denominator * (x - m) - a * numerator, UNIT * denominator)
 
@@ -50,12 +48,12 @@ def holds(spare):
 
 
 def less_than_32e(spare, a):
-    """Less than 32 e units to spare, e = A / 2^28."""
+    """R20, with e = A / 2^28."""
     return UNIT * spare[0] < 32 * a * spare[1]
 
 
 def sine_between(x, lo, hi):
-    """Lo <= 2^28 S_9(X) and 2^28 S_10(X) <= Hi."""
+    """R14."""
     low, low_whole = scaled_sum(x, 9)
     high, high_whole = scaled_sum(x, 10)
     return lo * low_whole <= low and high <= hi * high_whole

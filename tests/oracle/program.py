@@ -12,8 +12,8 @@ from pathlib import Path
 
 import cases
 import edges
-import page
 import records
+import stated
 
 # How long a program may take that has nothing to wait for.
 SECONDS = 20
@@ -26,7 +26,7 @@ def files():
     every = b"".join(edges.every_record())
     longest = b"".join(cases.record(rng) for _ in range(3_276))
     yield "no claims", b""
-    yield "the page's batch", page.BATCH.claims
+    yield "the stated batch", stated.BATCH.claims
     yield "every kind of record", every
     for cut in (1, 19, 20, 21, 39, 40, 41, len(every) - 1):
         yield f"cut to {cut} bytes", every[:cut]

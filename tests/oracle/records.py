@@ -1,22 +1,20 @@
-"""Claim records, the batch and the program, in the words of the rules page."""
+"""Claim records, the batch and the program, R49 to R53."""
 import rules
 
 SIZE = 20
-# The program reads at most 65,520 bytes (3,276 claims).
+# R53
 PROGRAM_BYTES = 65_520
 
 
 def record(m, a, bits, n, depth, reserved=0):
-    """20 bytes, little-endian, no header: M (4), A (4), estimate bits (8),
-    N (2), depth (1), reserved (1, zero)."""
+    """R49."""
     return (m.to_bytes(4, "little") + a.to_bytes(4, "little")
             + bits.to_bytes(8, "little") + n.to_bytes(2, "little")
             + bytes([depth, reserved]))
 
 
 def answer_byte(claim):
-    """16 Confirmed, 17 Refuted, 18 Undecided, or the record's code 9, 1, 2, 3
-    or 4."""
+    """R50: a code where there is one, else the verdict."""
     if claim[19] != 0:
         return 9
     m, a, bits, n = (int.from_bytes(claim[start:stop], "little")
@@ -26,10 +24,7 @@ def answer_byte(claim):
 
 
 def judge_claims(claims, answers, answers_len):
-    """Code, count and the bytes of the answers buffer afterwards.
-
-    For the batch, 7 and then 8 come before any record is read. Codes 7 and 8
-    write nothing. Answer bytes beyond the count stay."""
+    """R51, R52: code, count and the answers buffer afterwards."""
     count = len(claims) // SIZE
     if len(claims) % SIZE:
         return 7, 0, answers
@@ -41,8 +36,7 @@ def judge_claims(claims, answers, answers_len):
 
 
 def program(data):
-    """The program writes exactly the answer bytes; for longer input or code 7
-    it writes nothing."""
+    """R53: what is written for an input."""
     if len(data) > PROGRAM_BYTES:
         return b""
     room = len(data) // SIZE

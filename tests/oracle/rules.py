@@ -1,31 +1,31 @@
-"""The written rules in exact whole numbers, in the order of the rules page.
+"""The rules of docs/RULES.md in exact whole numbers, in their order.
 
 It has nothing in common with the library: no code, no table, no floating
-point. A double is read as its 64 bits. The comment of a function is the
-sentence of the rules that it follows.
+point. A double is read as its 64 bits. The comment of a function begins with
+the number of the rule that it follows.
 """
 from fractions import Fraction
 from functools import lru_cache
 from math import floor
 
-# One unit is 2^-28 radian. e is A / 2^28, with A from 0 to 268,435,456.
+# R2, R3: units in a radian, and A for e = 1
 UNIT = 2 ** 28
 ONE = 268_435_456
-# H = 843,314,856 is the largest M. T = 843,314,920 = H + 64 is the largest
-# angle X tested.
+# R3: the greatest M and the greatest X
 H = 843_314_856
 T = 843_314_920
-# Depth d is 1 to 5. Tolerance N is 0 to 65,535 units.
+# R3: every depth, and the greatest N
 DEPTHS = (1, 2, 3, 4, 5)
 TOLERANCE = 65_535
 
+# R45
 CONFIRMED, REFUTED, UNDECIDED = 16, 17, 18
 
 
 # ---- Codes -----------------------------------------------------------------
 
 def orbit_code(m, a, depth):
-    """Order: 9, 1, 2, 3, .. as far as a call has that input."""
+    """R6: 1, 2, then 3."""
     if m > H:
         return 1
     if a > ONE:
@@ -34,16 +34,16 @@ def orbit_code(m, a, depth):
 
 
 def depth_code(depth):
-    """3: depth not 1 to 5."""
+    """R5, code 3."""
     return 0 if depth in DEPTHS else 3
 
 
 def angle_code(x):
-    """10: grid angle above T."""
+    """R5, code 10."""
     return 10 if x > T else 0
 
 
-# ---- Sine as whole numbers -------------------------------------------------
+# ---- Sine in whole numbers -------------------------------------------------
 
 def up(numerator, divisor):
     """The quotient rounded up; // alone rounds down."""
@@ -51,8 +51,7 @@ def up(numerator, divisor):
 
 
 def terms(x, last):
-    """l_0 = u_0 = X. Then l_k is l_(k-1) Q- / (2^28 · 2k(2k+1)) rounded
-    down, and u_k is u_(k-1) Q+ / (2^28 · 2k(2k+1)) rounded up."""
+    """R10, R11: l_0 to l_last and u_0 to u_last."""
     q_minus, q_plus = x * x // UNIT, up(x * x, UNIT)
     lows, ups = [x], [x]
     for k in range(1, last + 1):
@@ -63,19 +62,18 @@ def terms(x, last):
 
 
 def raw_low(lows, ups, d):
-    """Even-numbered l minus odd-numbered u, terms 0 to 2d-1."""
+    """R12, with the last of the u's numbered 2d - 1."""
     return sum(lows[0:2 * d:2]) - sum(ups[1:2 * d:2])
 
 
 def raw_high(lows, ups, d):
-    """Even-numbered u minus odd-numbered l, terms 0 to 2d."""
+    """R12, with the last of the u's numbered 2d."""
     return sum(ups[0:2 * d + 1:2]) - sum(lows[1:2 * d + 1:2])
 
 
 @lru_cache(maxsize=20_000)
 def bounds(x, depth):
-    """Lo is the greatest raw low of depths 1 to d; Hi the least raw high of
-    depths 1 to d."""
+    """R13: Lo and Hi."""
     lows, ups = terms(x, 2 * depth)
     tried = range(1, depth + 1)
     return (max(raw_low(lows, ups, d) for d in tried),
@@ -83,28 +81,31 @@ def bounds(x, depth):
 
 
 def sine(x, depth):
+    """R16."""
     code = depth_code(depth) or angle_code(x)
     return (code, 0, 0) if code else (0, *bounds(x, depth))
 
 
-# ---- The two end tests -----------------------------------------------------
+# ---- End tests -------------------------------------------------------------
 
 def accepts_lower(x, m, a, depth):
-    """X is an accepted lower end when 2^28 (X - M) <= A · Lo."""
+    """R17."""
     return UNIT * (x - m) <= a * bounds(x, depth)[0]
 
 
 def accepts_upper(x, m, a, depth):
-    """X is an accepted upper end when 2^28 (X - M) >= A · Hi."""
+    """R18."""
     return UNIT * (x - m) >= a * bounds(x, depth)[1]
 
 
 def lower_end(x, m, a, depth):
+    """R24."""
     code = orbit_code(m, a, depth) or angle_code(x)
     return (code, 0) if code else (0, int(accepts_lower(x, m, a, depth)))
 
 
 def upper_end(x, m, a, depth):
+    """R24."""
     code = orbit_code(m, a, depth) or angle_code(x)
     return (code, 0) if code else (0, int(accepts_upper(x, m, a, depth)))
 
@@ -112,9 +113,7 @@ def upper_end(x, m, a, depth):
 # ---- Enclosure -------------------------------------------------------------
 
 def search_lower(m, a, depth):
-    """Keep p accepted as lower end and q not, from p = 0, q = T. While
-    q - p > 1, test the middle (p + q) / 2, rounded down, and replace p or q.
-    The answer is a = p."""
+    """R25, R26: p stays accepted, and q not."""
     p, q = 0, T
     while q - p > 1:
         middle = (p + q) // 2
@@ -126,8 +125,7 @@ def search_lower(m, a, depth):
 
 
 def search_upper(m, a, depth):
-    """If 0 is accepted, b = 0. Otherwise keep p not accepted and q accepted,
-    from 0 and T, the same middle; b = q."""
+    """R25, R27: q stays accepted, and p not."""
     if accepts_upper(0, m, a, depth):
         return 0
     p, q = 0, T
@@ -141,7 +139,7 @@ def search_upper(m, a, depth):
 
 
 def enclose(m, a, depth):
-    """If T is not accepted as upper end, code 6."""
+    """R28, R31: code 6 comes last."""
     code = orbit_code(m, a, depth)
     if not code and not accepts_upper(T, m, a, depth):
         code = 6
@@ -150,19 +148,18 @@ def enclose(m, a, depth):
     return 0, search_lower(m, a, depth), search_upper(m, a, depth)
 
 
-# ---- The proposal ----------------------------------------------------------
+# ---- Proposal --------------------------------------------------------------
 
 def atan_between(z, count):
-    """A fraction below and one above atan z, 0 < z < 1: partial sums of the
-    alternating series with an even and an odd number of terms."""
+    """R33: a fraction below and one above atan z, 0 < z < 1, by sums with an
+    even and an odd number of terms."""
     below = sum(Fraction((-1) ** i, 2 * i + 1) * z ** (2 * i + 1)
                 for i in range(2 * count))
     return below, below + z ** (4 * count + 1) / (4 * count + 1)
 
 
 def arctangent_entry(k):
-    """Arctangent entry k (0 to 24) is 2^28 atan(2^-k) rounded down; for
-    k = 0, atan 1 = atan 1/2 + atan 1/3."""
+    """R33: the number on which both fractions agree."""
     parts = (2, 3) if k == 0 else (2 ** k,)
     pairs = [atan_between(Fraction(1, part), 10) for part in parts]
     below, above = (floor(UNIT * sum(side)) for side in zip(*pairs))
@@ -172,8 +169,7 @@ def arctangent_entry(k):
 
 
 def gain():
-    """G is 2^28 times the product of 4^k / (4^k + 1) for k = 0 to 24,
-    rounded down."""
+    """R34."""
     product = Fraction(UNIT)
     for k in range(25):
         product *= Fraction(4 ** k, 4 ** k + 1)
@@ -185,9 +181,7 @@ GAIN = gain()
 
 
 def rotations(m, a):
-    """Each rotation with shift k: sign + if E - y < M, else -. Add or
-    subtract entry k to E. With old x and y, each first divided by 2^k rounding
-    down and then signed: x loses sign · y', y gains sign · x'."""
+    """R35, R36: E, x and y after the last."""
     e, x, y = 0, a * GAIN // UNIT, 0
     for k in range(25):
         for _ in range(2):
@@ -199,9 +193,7 @@ def rotations(m, a):
 
 
 def certificate(e, m, a):
-    """The smallest j from 0 to 30 such that the greater of E - 2^j and 0 is
-    an accepted lower end and the lesser of E + 2^j and T an accepted upper
-    end, both at depth 5."""
+    """R38, and R39 where none is found."""
     for j in range(31):
         if (accepts_lower(max(e - 2 ** j, 0), m, a, 5)
                 and accepts_upper(min(e + 2 ** j, T), m, a, 5)):
@@ -210,8 +202,7 @@ def certificate(e, m, a):
 
 
 def propose(m, a):
-    """At the end E is brought into 0 to T. Returned: E, y (near e sin E),
-    x (near e cos E)."""
+    """R37, R40."""
     code = orbit_code(m, a, 5)
     if code:
         return code, 0, 0, 0, 0
@@ -223,9 +214,7 @@ def propose(m, a):
 # ---- Judging a double ------------------------------------------------------
 
 def floor_and_ceiling(bits):
-    """The estimate times 2^28 is exact; f is that product rounded down, c
-    rounded up. Negative zero counts as 0. (None where code 4 is due: not a
-    number, infinite, below zero, or above T units.)"""
+    """R41: f and c, or None where code 4 is due."""
     negative, exponent = bits >> 63, bits >> 52 & 2047
     mantissa = bits & 2 ** 52 - 1
     if exponent == 2047 or (negative and (exponent or mantissa)):
@@ -241,20 +230,19 @@ def floor_and_ceiling(bits):
 
 
 def is_confirmed(m, a, f, c, n, depth):
-    """p is c - N, or 0 if that is below 0. q is f + N, or T if that is above
-    T. Confirmed: p is an accepted lower end and q an accepted upper end."""
+    """R42, R43."""
     return (accepts_lower(max(c - n, 0), m, a, depth)
             and accepts_upper(min(f + n, T), m, a, depth))
 
 
 def is_refuted(m, a, f, c, n, depth):
-    """f + N + 1 is at most T and an accepted lower end, or c - N - 1 is at
-    least 0 and an accepted upper end."""
+    """R44: either end will do."""
     return ((f + n + 1 <= T and accepts_lower(f + n + 1, m, a, depth))
             or (c - n - 1 >= 0 and accepts_upper(c - n - 1, m, a, depth)))
 
 
 def judge(m, a, bits, n, depth):
+    """R45, R48."""
     code = orbit_code(m, a, depth)
     units = floor_and_ceiling(bits)
     if not code and units is None:

@@ -1,4 +1,4 @@
-"""The numbers that the rules page gives: calls with their stated answers.
+"""The numbers of R57, and some beside them: calls with their stated answers.
 
 They hold both programs: the rules of this folder and the library.
 """
@@ -12,6 +12,7 @@ SINES = [
     (524_288, 1, 524_287, 524_289), (524_288, 5, 524_287, 524_289),
     (ONE, 1, 223_696_213, 225_933_177), (ONE, 2, 225_879_913, 225_880_656),
     (ONE, 3, 225_880_645, 225_880_651), (ONE, 5, 225_880_645, 225_880_651),
+    (T, 5, -69, -57),
 ]
 
 # At A = 2^28 and X = 2^28: depth, M and whether each end is accepted.
@@ -52,8 +53,9 @@ def enclosures():
 def verdicts():
     """The least double lies above 0, and with A = 0 the root is M: within one
     unit of it are 0 and 1, within none is no whole number. A guess of 2^-9 at
-    M = 0, e = 1 is no good for all its residual."""
-    flattered = doubles.of_units(524_288)
+    M = 0, e = 1 is no good for all its residual, and 2^-8 is refuted."""
+    flattered, far_off = doubles.of_units(524_288), doubles.of_units(1_048_576)
+    top = doubles.of_units(T)
     return [(wire.judge(0, 0, 1, 0, 1), (0, REFUTED)),
             (wire.judge(1, 0, 1, 0, 1), (0, REFUTED)),
             (wire.judge(0, 0, 1, 1, 1), (0, CONFIRMED)),
@@ -61,11 +63,14 @@ def verdicts():
             (wire.judge(2, 0, 1, 1, 1), (0, REFUTED)),
             (wire.judge(0, ONE, 0, 0, 5), (0, CONFIRMED)),
             (wire.judge(0, ONE, 0, 1, 5), (0, UNDECIDED)),
-            (wire.judge(0, ONE, flattered, 1_000, 5), (0, UNDECIDED))]
+            (wire.judge(0, ONE, flattered, 1_000, 5), (0, UNDECIDED)),
+            (wire.judge(0, ONE, far_off, 1_000, 5), (0, REFUTED)),
+            (wire.judge(H, 0, top, 64, 5), (0, CONFIRMED)),
+            (wire.judge(H, 0, top + 1, 64, 5), (4, 0))]
 
 
 def stated():
-    """Every call of the page with its answer, cut to what the entry gives."""
+    """Every call with its answer."""
     sines = [(wire.sine(x, d), (0, lo, hi)) for x, d, lo, hi in SINES]
     sines += [(wire.sine(T + 1, 5), (10, 0, 0))]
     batch = [(BATCH, (0, 2, b"\x10\x12\xEE", BATCH.claims))]
