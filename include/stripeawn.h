@@ -53,9 +53,9 @@ extern "C" {
 
 /* Version. */
 #define STRIPEAWN_VERSION_MAJOR 0
-#define STRIPEAWN_VERSION_MINOR 1
+#define STRIPEAWN_VERSION_MINOR 2
 #define STRIPEAWN_VERSION_PATCH 0
-#define STRIPEAWN_VERSION "0.1.0"
+#define STRIPEAWN_VERSION "0.2.0"
 
 /* Limits: the greatest value taken. */
 #define STRIPEAWN_M_MAX 843314856u    /* H, the whole part of pi 2^28      */
