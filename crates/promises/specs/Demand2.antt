@@ -38,7 +38,7 @@ pub record EndsTrue (m a d : ℕ) (r : Enclosure) : Type 0 where
   -- R19: the exact inequality at each
   pub lower : LowerExact (orbitAt m a) (r .a)
   pub upper : UpperExact (orbitAt m a) (r .b)
-  -- R29: both are accepted, and the lower end does not lie above the upper
+  -- R29, R56: both are accepted, and the lower end does not lie above the upper
   pub a-accepted : lowerRule (r .a) m a d ≡ flagged true
   pub b-accepted : upperRule (r .b) m a d ≡ flagged true
   pub order : r .a ≤ r .b
@@ -53,7 +53,7 @@ pub record Certified (m a : ℕ) (r : Proposal) : Type 0 where
   -- R19: the exact inequalities at the two ends that j names
   pub lower : LowerExact (orbitAt m a) (lowAt (r .angle) (r .j))
   pub upper : UpperExact (orbitAt m a) (highAt (r .angle) (r .j))
-  -- R38: both accepted at depth 5
+  -- R38, R56: both accepted at depth 5
   pub low-accepted : lowerRule (lowAt (r .angle) (r .j)) m a depths ≡ flagged true
   pub high-accepted : upperRule (highAt (r .angle) (r .j)) m a depths ≡ flagged true
   -- R38: the smallest j from 0 to 30, and the only one

@@ -116,7 +116,8 @@ others =
     -- T units in radians, and the next double above them
     ∷ estimate-code 0x400921fb74000000 done
     ∷ estimate-code 0x400921fb74000001 estimate-off-range
-    -- M = 0, e = 1: the estimates 2^-9, whose residual is small, and 2^-8, and 0 with two tolerances, the wider of which loses the verdict (R47)
+    -- M = 0, e = 1: the estimates 2^-9, whose residual is small (R58), and 2^-8; and 0 with two tolerances, of which the
+    -- wider loses the verdict (R47)
     ∷ judged 0 one 0x3f60000000000000 1000 5 Undecided
     ∷ judged 0 one 0x3f70000000000000 1000 5 Refuted
     ∷ judged 0 one 0 0 5 Confirmed
