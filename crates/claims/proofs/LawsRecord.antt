@@ -13,7 +13,7 @@ use Rattle.judge.specs.declared.Verdict.the-variants.{Confirmed, Refuted, Undec
 use Rattle.judge.proofs.Small.{of-judged}
 use Rattle.claims.specs.Record.{twenty, reserved-check, byteOf, claimAt, answerAt}
 use Rattle.claims.specs.Answer.{Answer, confirmed, refuted, undecided, bad-reserved, bad-m, bad-a, bad-depth, bad-estimate}
-use Rattle.claims.proofs.LawsLittle.{little-small}
+use Rattle.little.proofs.LawsLittle.{little-small}
 
 of-verdict : (v : Verdict) → Answer (byteOf (record { code = 0; verdict = verdictNumber v }))
 of-verdict Confirmed = confirmed

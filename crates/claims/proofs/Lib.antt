@@ -1,4 +1,3 @@
-pub mod LawsLittle
 pub mod LawsDouble
 pub mod LawsBatch
 pub mod LawsAnswers

@@ -1,4 +1,3 @@
-pub mod LittleEndian
 pub mod Record
 pub mod Answer
 pub mod Batch

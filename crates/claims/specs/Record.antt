@@ -8,7 +8,7 @@ use Rattle.grid.specs.Codes.{Check, number, done, answer, reserved-not-zero}
 use Rattle.judge.specs.Judge.{judgeRule}
 use Rattle.judge.specs.declared.Claim.{Claim}
 use Rattle.judge.specs.declared.Judged.{Judged}
-use Rattle.claims.specs.LittleEndian.{littleEndian}
+use Rattle.little.specs.LittleEndian.{littleEndian}
 
 -- R49: where a field stands in its record, and how many bytes it has
 pub record Field : Type 0 where

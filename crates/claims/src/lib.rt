@@ -6,7 +6,6 @@ ghost use Rattle.claims.specs.Batch.{batchRule, answersAfter};
 use grid::codes;
 use record::RECORD_BYTES;
 
-mod little;
 mod record;
 
 // What a batch returns: its code, and how many claims were answered.

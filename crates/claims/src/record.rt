@@ -4,7 +4,6 @@ ghost use Prim.Native.Nat.{_+_, _*_, _≤_};
 ghost use lib.ListN.{length};
 ghost use lib.Ieee.{binary64, ofBits};
 ghost use Rattle.claims.specs.Record.{twenty, claimFrom, answerAt};
-use crate::little;
 use grid::codes;
 use judge::Claim;
 

@@ -11,7 +11,7 @@ use Rattle.grid.specs.Grid.{T-units}
 use Rattle.grid.specs.Codes.{or}
 use Rattle.ends.specs.Ends.{upperEnd}
 use Rattle.units.specs.Units.{product, offRange, estimate-check}
-use Rattle.claims.proofs.LawsLittle.{one-byte}
+use Rattle.little.proofs.LawsLittle.{one-byte}
 use Rattle.promises.specs.Conditions.{OffRange, Exactly, Conditions}
 
 less : (a b : ℕ) → ltb a b ≡ true ↔ a < b

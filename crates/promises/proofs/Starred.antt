@@ -13,7 +13,7 @@ use Rattle.enclosure.proofs.Laws.{circle}
 use Rattle.units.specs.Units.{offRange}
 use Rattle.judge.specs.Verdict.{confirmed, refuted, verdictOf}
 use Rattle.judge.specs.Judge.{judgeRule}
-use Rattle.claims.specs.LittleEndian.{littleEndian}
+use Rattle.little.specs.LittleEndian.{littleEndian}
 use Rattle.claims.specs.Record.{answerAt}
 use Rattle.claims.specs.Batch.{batchRule, upTo, answersAfter}
 use Rattle.series.proofs.Zero.{Lo-zero, Hi-zero}

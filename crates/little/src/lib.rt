@@ -2,7 +2,7 @@
 ghost use mathlib.Core.Path.{_≡_};
 ghost use Prim.Native.Nat.{_+_, _≤_};
 ghost use lib.ListN.{length};
-ghost use Rattle.claims.specs.LittleEndian.{littleEndian};
+ghost use Rattle.little.specs.LittleEndian.{littleEndian};
 
 pub fn u8_at(bytes: &[u8], at: usize) -> u8
     requires { ⌜ at + 1 ≤ length (now bytes) ⌝ }

@@ -1,10 +1,10 @@
--- `claims::little::u32_at` meets its contract: its number is split into two halves. Assumes nothing.
+-- `little::u32_at` meets its contract: its number is split into two halves. Assumes nothing.
 use borrow.Author.Needs.{needs}
 use native.Mathlib.Omega.{arith}
 use denote.Ref.{now}
-use Rattle.claims.proofs.LawsLittle.{split}
-use Rattle.claims.proofs.little.u32_at.Statement.{statement}
-use Rattle.claims.proofs.little.u32_at.Tie as tie
+use Rattle.little.proofs.LawsLittle.{split}
+use Rattle.little.proofs.u32_at.Statement.{statement}
+use Rattle.little.proofs.u32_at.Tie as tie
 
 u16-at-requires : tie.Need-u16-at-requires
 u16-at-requires c κs = search needs

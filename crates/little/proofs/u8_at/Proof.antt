@@ -1,9 +1,9 @@
--- `claims::little::u8_at` meets its contract: one byte is its own number. Assumes nothing.
+-- `little::u8_at` meets its contract: one byte is its own number. Assumes nothing.
 use borrow.Author.Needs.{needs}
 use mathlib.Core.Path.{sym}
-use Rattle.claims.proofs.LawsLittle.{one-byte}
-use Rattle.claims.proofs.little.u8_at.Statement.{statement}
-use Rattle.claims.proofs.little.u8_at.Tie as tie
+use Rattle.little.proofs.LawsLittle.{one-byte}
+use Rattle.little.proofs.u8_at.Statement.{statement}
+use Rattle.little.proofs.u8_at.Tie as tie
 
 shared-slice-read-result : tie.Need-shared-slice-read-result
 shared-slice-read-result c = search needs

@@ -5,7 +5,7 @@ use Prim.Native.Nat.{ℕ, zero, suc, _+_, _*_, _^_, _<_}
 use native.Mathlib.Nat.{pow-succ', add-zero, zero-add, suc-add}
 use native.Mathlib.Omega.{arith}
 use lib.ListN.{getD}
-use Rattle.claims.specs.LittleEndian.{littleEndian}
+use Rattle.little.specs.LittleEndian.{littleEndian}
 
 pub one-byte : (bytes : List ℕ) (at : ℕ) → littleEndian bytes at 1 ≡ getD bytes at 0
 unfolding littleEndian
