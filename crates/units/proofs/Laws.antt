@@ -1,39 +1,22 @@
 -- f and c are the floor and the ceiling of the product, they differ by one at most, and neither is above T. Assumes nothing.
 use mathlib.Core.Path.{_≡_, refl, subst}
-use mathlib.Core.Bool.{Bool, true, false, _&&_, true≢false}
+use mathlib.Core.Bool.{false}
 use Prim.Native.Nat.{ℕ, _*_, _≤_, _<_}
 use native.Mathlib.Nat.{le-of-eq, le-antisymm}
 use native.Mathlib.Omega.{arith}
 use mathlib.Core.List.{[], _∷_}
-use lib.Dec.{ltb}
-use borrow.Author.Tests.{ltb-false}
-use lib.Ieee.{Float, nan, inf, fin}
+use lib.Ieee.{Float}
 use lib.Ieee.Positive.{den, den-pos}
 use Rattle.whole.specs.Round.{down, up}
-use Rattle.whole.proofs.Round.{down-le, lt-down, le-up, up-lt, up-le, down-le-up}
+use Rattle.whole.proofs.Round.{down-le, lt-down, le-up, up-lt, up-le, down-le-up, up-whole, up-le-next}
 use Rattle.grid.specs.Grid.{T-units}
-use Rattle.grid.specs.Codes.{or}
-use Rattle.units.specs.Units.{product, floorAndCeiling, offRange, estimate-check, unitsOf}
+use Rattle.units.specs.Units.{product, floorAndCeiling, estimate-check, unitsOf}
 use Rattle.units.specs.Exact.{Rounded}
 use Rattle.units.specs.declared.Units.{Units}
 use Rattle.units.specs.declared.UnitsOr.the-variants.{Made}
 use Rattle.grid.proofs.Made.{was-made, value-made}
 use Rattle.units.proofs.Enum.{unit-answers}
-use Rattle.whole.proofs.Round.{up-whole, up-le-next}
-
-or-last : (a b : Bool) → or a b ≡ false → b ≡ false
-or-last true b h = absurd (true≢false h)
-or-last false b h = h
-
--- an estimate that is not refused is at most T units
-not-above : (x : Float) → offRange x ≡ false → product x ≤ T-units * den x
-unfolding offRange
-not-above nan h = absurd (true≢false h)
-not-above (inf s) h = absurd (true≢false h)
-not-above (fin s m e) h =
-    let x = fin s m e in
-    let above = ltb (T-units * den x) (product x) in
-    ltb-false (T-units * den x) (product x) (or-last (s && ltb 0 m) above h)
+use Rattle.units.proofs.Estimate.{passed-within}
 
 rounded : (a d : ℕ) → 0 < d → a ≤ T-units * d → Rounded a d (down a d) (up a d)
 rounded a d D h =
@@ -53,7 +36,7 @@ rounded a d D h =
 -- an estimate whose check passes
 pub in-range-rounded : (x : Float) → estimate-check x .fails ≡ false
     → Rounded (product x) (den x) (floorAndCeiling x .f) (floorAndCeiling x .c)
-in-range-rounded x h = rounded (product x) (den x) (den-pos x) (not-above x h)
+in-range-rounded x h = rounded (product x) (den x) (den-pos x) (passed-within x h .small)
 
 -- whatever is made
 pub made-rounded : (x : Float) (u : Units) → unitsOf x ≡ Made u → Rounded (product x) (den x) (u .f) (u .c)
