@@ -4,17 +4,17 @@ use mathlib.Core.Bool.{not}
 use mathlib.Core.List.{List, [], _∷_, _++_}
 use lib.Dec.{eqb, ltb}
 use lib.ListN.{length, drop}
-use Rattle.grid.specs.Codes.{Check, number, done, answer, claims-length, answers-short}
+use Rattle.grid.specs.Codes.{Check, number, done, answer, bad-length, short-answers}
 use Rattle.claims.specs.Record.{Form, answerAt}
 use Rattle.claims.specs.declared.Batch.{Batch}
 
 -- R5: code 7, a last record that is cut off
 abbrev pub length-check : Form → ℕ → Check
-length-check form bytes = record { fails = not (eqb (bytes % form .width) 0); code = claims-length }
+length-check form bytes = record { fails = not (eqb (bytes % form .width) 0); code = bad-length }
 
 -- R5: code 8, more claims than places for their answers
 abbrev pub answers-check : Form → ℕ → ℕ → Check
-answers-check form bytes room = record { fails = ltb room (bytes / form .width); code = answers-short }
+answers-check form bytes room = record { fails = ltb room (bytes / form .width); code = short-answers }
 
 -- R51: what the batch returns for claims of so many bytes and an answers buffer of so many: codes 7 and 8 in that order, by
 -- the lengths alone (R6), else the count; R7: a zero beside a code

@@ -4,7 +4,7 @@ use mathlib.Core.Bool.{not, cond}
 use mathlib.Core.List.{List, [], _∷_}
 use lib.Dec.{eqb}
 use lib.Ieee.{binary64, ofBits}
-use Rattle.grid.specs.Codes.{Check, number, done, answer, reserved-not-zero}
+use Rattle.grid.specs.Codes.{Check, number, done, answer, bad-reserved}
 use Rattle.judge.specs.Judge.{judgeRule}
 use Rattle.judge.specs.declared.Claim.{Claim}
 use Rattle.judge.specs.declared.Judged.{Judged}
@@ -56,7 +56,7 @@ claimFrom form bytes start =
 -- R5: code 9, a reserved byte other than zero
 abbrev pub reserved-check : Form → List ℕ → ℕ → Check
 reserved-check form bytes start =
-    record { fails = not (eqb (valueOf bytes start (form .reserved)) 0); code = reserved-not-zero }
+    record { fails = not (eqb (valueOf bytes start (form .reserved)) 0); code = bad-reserved }
 
 -- R50: the code where there is one, else the verdict's number
 abbrev pub byteOf : Judged → ℕ

@@ -21,14 +21,14 @@ fn batch_of(bytes: usize, room: usize) -> Batch
 {
     if bytes % RECORD_BYTES != 0 {
         return Batch {
-            code: codes::CLAIMS_LENGTH,
+            code: codes::BAD_LENGTH,
             count: 0,
         };
     }
     let count = bytes / RECORD_BYTES;
     if room < count {
         return Batch {
-            code: codes::ANSWERS_SHORT,
+            code: codes::SHORT_ANSWERS,
             count: 0,
         };
     }

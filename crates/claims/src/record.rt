@@ -65,7 +65,7 @@ pub fn answer(claims: &[u8], i: usize) -> u8
     let at = i * RECORD_BYTES;
     let reserved = little::u8_at(claims, at + RESERVED_AT);
     if reserved != 0 {
-        return codes::RESERVED_NOT_ZERO as u8;
+        return codes::BAD_RESERVED as u8;
     }
     let judged = judge::judge(read_claim(claims, at));
     if judged.code == 0 {

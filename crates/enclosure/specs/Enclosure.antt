@@ -3,7 +3,7 @@ use Prim.Native.Nat.{ℕ}
 use mathlib.Core.Bool.{not, cond}
 use mathlib.Core.List.{[], _∷_}
 use Rattle.grid.specs.Grid.{T-units}
-use Rattle.grid.specs.Codes.{Check, number, done, answer, m-check, a-check, depth-check, T-no-upper-end}
+use Rattle.grid.specs.Codes.{Check, number, done, answer, m-check, a-check, depth-check, no-upper-end}
 use Rattle.ends.specs.declared.Orbit.{Orbit}
 use Rattle.ends.specs.Ends.{lowerEnd, upperEnd}
 use Rattle.ends.specs.Entry.{orbitAt}
@@ -12,7 +12,7 @@ use Rattle.enclosure.specs.Halving.{lowerSearch, upperSearch}
 
 -- R5, R28: code 6, by the test of T
 abbrev pub T-check : Orbit → ℕ → Check
-T-check o d = record { fails = not (upperEnd o d T-units); code = T-no-upper-end }
+T-check o d = record { fails = not (upperEnd o d T-units); code = no-upper-end }
 
 -- R26: a, by the tests of lower ends from 0 to T
 unfoldable pub lowerAnswer : Orbit → ℕ → ℕ

@@ -72,7 +72,7 @@ fn enclose_orbit(o: Orbit, d: Depth) -> Enclosure
 {
     let top = Angle::T as u64;
     if !ends::upper(o, Angle { units: top }, d) {
-        return refused(codes::T_NO_UPPER_END);
+        return refused(codes::NO_UPPER_END);
     }
     let below = last_bracket(o, d, true);
     if ends::upper(o, Angle { units: 0 }, d) {

@@ -39,7 +39,7 @@ impl Orbit {
                 }),
             }
         } else {
-            OrbitOr::Refused(codes::M_ABOVE_H)
+            OrbitOr::Refused(codes::BAD_M)
         }
     }
 }

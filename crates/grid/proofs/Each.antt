@@ -3,7 +3,7 @@ use mathlib.Core.Path.{_≡_, refl}
 use mathlib.Core.Bool.{Bool, true, false, cond}
 use mathlib.Core.List.{List, [], _∷_}
 use Prim.Native.Nat.{ℕ}
-use Rattle.grid.specs.Codes.{Check, number, answer, Passed}
+use Rattle.grid.specs.Codes.{Check, number, checked, Passed}
 
 -- P holds of the refusal of every check that fails
 abbrev pub Each : {A : Type 0} (P : A → Type 0) (refused : ℕ → A) → List Check → Type 0
@@ -16,8 +16,8 @@ module _ {A : Type 0} (P : A → Type 0) (refused : ℕ → A) (given : A) where
   by-first false x y f g = g refl
 
   -- what holds of every refusal, and of what is given, holds of the answer
-  pub of-answer : (cs : List Check) → Each P refused cs → (Passed cs → P given) → P (answer cs refused given)
-  of-answer [] each last = last tt
-  of-answer (c ∷ cs) each last =
-      by-first (c .fails) (refused (number (c .code))) (answer cs refused given) (each .0)
-      (λ p. of-answer cs (each .1) (λ ps. last (p, ps)))
+  pub of-checked : (cs : List Check) → Each P refused cs → (Passed cs → P given) → P (checked cs refused given)
+  of-checked [] each last = last tt
+  of-checked (c ∷ cs) each last =
+      by-first (c .fails) (refused (number (c .code))) (checked cs refused given) (each .0)
+      (λ p. of-checked cs (each .1) (λ ps. last (p, ps)))

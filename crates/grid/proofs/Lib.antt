@@ -1,3 +1,5 @@
-pub mod Each
-pub mod Enums
+pub mod Fits
+pub mod FirstCode
+pub mod Refuses
 pub mod Made
+pub mod Each

@@ -3,33 +3,33 @@ use Prim.Native.Nat.{ℕ}
 use mathlib.Core.Path.{_≡_}
 use mathlib.Core.Bool.{Bool, true, false, cond}
 use mathlib.Core.List.{List, [], _∷_}
-use lib.Dec.{ltb}
+use lib.Dec.{ltb, eqb}
 use Rattle.grid.specs.Grid.{one, H-units, T-units, depths, N-units}
 
 -- R5: what a code says, in the order of the numbers
 pub data Code : Type 0 where
-  done m-above-H a-above-one depth-not-1-to-5 estimate-off-range n-above-limit : Code
-  T-no-upper-end claims-length answers-short reserved-not-zero x-above-T : Code
+  done bad-m bad-a bad-depth bad-estimate bad-n : Code
+  no-upper-end bad-length short-answers bad-reserved bad-x : Code
 
 -- R5: the number of a code
 abbrev pub number : Code → ℕ
 number done = 0
-number m-above-H = 1
-number a-above-one = 2
-number depth-not-1-to-5 = 3
-number estimate-off-range = 4
-number n-above-limit = 5
-number T-no-upper-end = 6
-number claims-length = 7
-number answers-short = 8
-number reserved-not-zero = 9
-number x-above-T = 10
+number bad-m = 1
+number bad-a = 2
+number bad-depth = 3
+number bad-estimate = 4
+number bad-n = 5
+number no-upper-end = 6
+number bad-length = 7
+number short-answers = 8
+number bad-reserved = 9
+number bad-x = 10
 
 -- R6: the order in which an entry has the checks of its own inputs
 unfoldable pub order : List Code
 order =
-    claims-length ∷ answers-short ∷ reserved-not-zero ∷ m-above-H ∷ a-above-one ∷ depth-not-1-to-5
-    ∷ x-above-T ∷ estimate-off-range ∷ n-above-limit ∷ T-no-upper-end ∷ []
+    bad-length ∷ short-answers ∷ bad-reserved ∷ bad-m ∷ bad-a ∷ bad-depth
+    ∷ bad-x ∷ bad-estimate ∷ bad-n ∷ no-upper-end ∷ []
 
 -- R5: a code's condition, computed from one call's input, beside the code
 pub record Check : Type 0 where
@@ -41,25 +41,29 @@ abbrev pub or : Bool → Bool → Bool
 or true b = true
 or false b = b
 
+-- R5: a number beyond its limit
+abbrev pub limit-check : ℕ → ℕ → Code → Check
+limit-check n limit code = record { fails = ltb limit n; code = code }
+
 -- R5: code 1, M beyond H
 abbrev pub m-check : ℕ → Check
-m-check m = record { fails = ltb H-units m; code = m-above-H }
+m-check m = limit-check m H-units bad-m
 
 -- R5: code 2, e beyond 1
 abbrev pub a-check : ℕ → Check
-a-check a = record { fails = ltb one a; code = a-above-one }
+a-check a = limit-check a one bad-a
 
 -- R5: code 3, a depth other than 1 to 5
 abbrev pub depth-check : ℕ → Check
-depth-check d = record { fails = or (ltb d 1) (ltb depths d); code = depth-not-1-to-5 }
+depth-check d = record { fails = or (ltb d 1) (ltb depths d); code = bad-depth }
 
 -- R5: code 10, an angle beyond T
 abbrev pub x-check : ℕ → Check
-x-check x = record { fails = ltb T-units x; code = x-above-T }
+x-check x = limit-check x T-units bad-x
 
 -- R5: code 5, a tolerance beyond its limit
 abbrev pub n-check : ℕ → Check
-n-check n = record { fails = ltb N-units n; code = n-above-limit }
+n-check n = limit-check n N-units bad-n
 
 -- R5: none of a call's checks fails
 abbrev pub Passed : List Check → Type 0
@@ -67,11 +71,15 @@ Passed [] = Unit {0}
 Passed (c ∷ cs) = (c .fails ≡ false) × Passed cs
 
 -- R5, R6: a call's code: that of the first of its checks that fails, and `done` where none does
-abbrev pub first : List Check → Code
-first [] = done
-first (c ∷ cs) = cond (c .fails) (c .code) (first cs)
+abbrev pub firstCode : List Check → Code
+firstCode [] = done
+firstCode (c ∷ cs) = cond (c .fails) (c .code) (firstCode cs)
 
--- R5 to R7: a call's answer: what is refused with the number of the first check that fails, and `given` where none does
-abbrev pub answer : {A : Type 0} → List Check → (ℕ → A) → A → A
-answer [] refused given = given
-answer (c ∷ cs) refused given = cond (c .fails) (refused (number (c .code))) (answer cs refused given)
+-- R6: the code of checks that have the code `code`, and `next` of those after them
+abbrev pub earlier : ℕ → ℕ → ℕ
+earlier code next = cond (eqb code (number done)) next code
+
+-- R5 to R7: what is answered by a call's checks: a refusal with the number of the first that fails, and `given` where none does
+abbrev pub checked : {A : Type 0} → List Check → (ℕ → A) → A → A
+checked [] refused given = given
+checked (c ∷ cs) refused given = cond (c .fails) (refused (number (c .code))) (checked cs refused given)

@@ -1,4 +1,5 @@
 pub mod Grid
 pub mod Codes
-pub mod Said
 pub mod Make
+pub mod Refuses
+pub mod Limits

@@ -1,39 +1,28 @@
--- The checked ways to make an angle, an eccentricity and a depth, R4: the value, or its code.
+-- The checked ways to make an angle, an eccentricity and a depth, R4: the value, or its code. R7: zeros beside a code.
 use Prim.Native.Nat.{ℕ}
 use mathlib.Core.List.{[], _∷_}
-use Rattle.grid.specs.Codes.{number, done, answer, x-check, a-check, depth-check}
-use Rattle.grid.specs.Said.{Said}
-use Rattle.grid.specs.declared.Angle.{Angle}
-use Rattle.grid.specs.declared.Eccentricity.{Eccentricity}
-use Rattle.grid.specs.declared.Depth.{Depth}
-use Rattle.grid.specs.declared.AngleOr.{AngleOr}
-use Rattle.grid.specs.declared.AngleOr.the-variants as angle
-use Rattle.grid.specs.declared.EccentricityOr.{EccentricityOr}
-use Rattle.grid.specs.declared.EccentricityOr.the-variants as eccentricity
-use Rattle.grid.specs.declared.DepthOr.{DepthOr}
-use Rattle.grid.specs.declared.DepthOr.the-variants as depth
+use Rattle.grid.specs.Codes.{number, done, checked, x-check, a-check, depth-check}
+use Rattle.grid.specs.declared.CodedAngle.{CodedAngle}
+use Rattle.grid.specs.declared.CodedEccentricity.{CodedEccentricity}
+use Rattle.grid.specs.declared.CodedDepth.{CodedDepth}
 
 -- R4: an angle, or code 10
-abbrev pub angleOf : ℕ → AngleOr
-angleOf x = answer (x-check x ∷ []) angle.Refused (angle.Made (record { units = x }))
+abbrev pub angleWith : ℕ → ℕ → CodedAngle
+angleWith code x = record { code = code; angle = record { units = x } }
+
+abbrev pub codedAngle : ℕ → CodedAngle
+codedAngle x = checked (x-check x ∷ []) (λ k. angleWith k 0) (angleWith (number done) x)
 
 -- R4: an eccentricity, or code 2
-abbrev pub eccentricityOf : ℕ → EccentricityOr
-eccentricityOf a = answer (a-check a ∷ []) eccentricity.Refused (eccentricity.Made (record { units = a }))
+abbrev pub eccentricityWith : ℕ → ℕ → CodedEccentricity
+eccentricityWith code a = record { code = code; eccentricity = record { units = a } }
+
+abbrev pub codedEccentricity : ℕ → CodedEccentricity
+codedEccentricity a = checked (a-check a ∷ []) (λ k. eccentricityWith k 0) (eccentricityWith (number done) a)
 
 -- R4: a depth, or code 3
-abbrev pub depthOf : ℕ → DepthOr
-depthOf d = answer (depth-check d ∷ []) depth.Refused (depth.Made (record { pairs = d }))
+abbrev pub depthWith : ℕ → ℕ → CodedDepth
+depthWith code d = record { code = code; depth = record { pairs = d } }
 
--- R55: the code and the value of each case
-abbrev pub angleSays : AngleOr → Said Angle
-angleSays (angle.Made x) = record { code = number done; value = x }
-angleSays (angle.Refused code) = record { code = code; value = record { units = 0 } }
-
-abbrev pub eccentricitySays : EccentricityOr → Said Eccentricity
-eccentricitySays (eccentricity.Made e) = record { code = number done; value = e }
-eccentricitySays (eccentricity.Refused code) = record { code = code; value = record { units = 0 } }
-
-abbrev pub depthSays : DepthOr → Said Depth
-depthSays (depth.Made d) = record { code = number done; value = d }
-depthSays (depth.Refused code) = record { code = code; value = record { pairs = 0 } }
+abbrev pub codedDepth : ℕ → CodedDepth
+codedDepth d = checked (depth-check d ∷ []) (λ k. depthWith k 0) (depthWith (number done) d)

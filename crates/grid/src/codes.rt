@@ -1,22 +1,41 @@
 // R5: the code of each refusal. R6: of those that apply the first of 7, 8, 9, 1, 2, 3, 10, 4, 5, 6 is answered.
+ghost use mathlib.Core.Path.{_≡_};
+ghost use mathlib.Core.Bool.{cond};
+ghost use lib.Dec.{ltb};
+ghost use Rattle.grid.specs.Codes.{earlier};
+
 pub const DONE: u32 = 0;
 
-pub const M_ABOVE_H: u32 = 1;
+pub const BAD_M: u32 = 1;
 
-pub const A_ABOVE_ONE: u32 = 2;
+pub const BAD_A: u32 = 2;
 
-pub const DEPTH_NOT_1_TO_5: u32 = 3;
+pub const BAD_DEPTH: u32 = 3;
 
-pub const ESTIMATE_OFF_RANGE: u32 = 4;
+pub const BAD_ESTIMATE: u32 = 4;
 
-pub const N_ABOVE_LIMIT: u32 = 5;
+pub const BAD_N: u32 = 5;
 
-pub const T_NO_UPPER_END: u32 = 6;
+pub const NO_UPPER_END: u32 = 6;
 
-pub const CLAIMS_LENGTH: u32 = 7;
+pub const BAD_LENGTH: u32 = 7;
 
-pub const ANSWERS_SHORT: u32 = 8;
+pub const SHORT_ANSWERS: u32 = 8;
 
-pub const RESERVED_NOT_ZERO: u32 = 9;
+pub const BAD_RESERVED: u32 = 9;
 
-pub const X_ABOVE_T: u32 = 10;
+pub const BAD_X: u32 = 10;
+
+// The code of a number above its limit, else DONE.
+pub fn limited(n: u32, limit: u32, code: u32) -> u32
+    ensures { λ r. ⌜ r ≡ cond (ltb limit n) code 0 ⌝ }
+{
+    if n <= limit { DONE } else { code }
+}
+
+// The code of two lists of checks, one after the other.
+pub fn earlier(code: u32, next: u32) -> u32
+    ensures { λ r. ⌜ r ≡ earlier code next ⌝ }
+{
+    if code == DONE { next } else { code }
+}

@@ -2,7 +2,7 @@
 ghost use mathlib.Core.Path.{_≡_};
 ghost use Prim.Native.Nat.{_+_, _-_, min};
 ghost use Rattle.grid.specs.Grid.{T-units};
-ghost use Rattle.grid.specs.Make.{angleOf, eccentricityOf, depthOf};
+ghost use Rattle.grid.specs.Make.{codedAngle, codedEccentricity, codedDepth};
 
 pub mod codes;
 
@@ -11,9 +11,10 @@ pub struct Angle {
     pub units: u64,
 }
 
-pub enum AngleOr {
-    Made(Angle),
-    Refused(u32),
+// A code, and with code 0 the angle.
+pub struct CodedAngle {
+    pub code: u32,
+    pub angle: Angle,
 }
 
 impl Angle {
@@ -22,15 +23,21 @@ impl Angle {
     // The largest angle tested, H + 64.
     pub const T: u32 = 843_314_920;
 
-    pub fn new(units: u32) -> AngleOr
-        ensures { λ r. ⌜ r ≡ angleOf units ⌝ }
+    pub fn new(units: u32) -> CodedAngle
+        ensures { λ r. ⌜ r ≡ codedAngle units ⌝ }
     {
         if units <= Angle::T {
-            AngleOr::Made(Angle {
-                units: units as u64,
-            })
+            CodedAngle {
+                code: codes::DONE,
+                angle: Angle {
+                    units: units as u64,
+                },
+            }
         } else {
-            AngleOr::Refused(codes::X_ABOVE_T)
+            CodedAngle {
+                code: codes::BAD_X,
+                angle: Angle { units: 0 },
+            }
         }
     }
 }
@@ -40,24 +47,31 @@ pub struct Eccentricity {
     pub units: u64,
 }
 
-pub enum EccentricityOr {
-    Made(Eccentricity),
-    Refused(u32),
+// A code, and with code 0 the eccentricity.
+pub struct CodedEccentricity {
+    pub code: u32,
+    pub eccentricity: Eccentricity,
 }
 
 impl Eccentricity {
     // A for e = 1, and one radian in units.
     pub const ONE: u32 = 268_435_456;
 
-    pub fn new(units: u32) -> EccentricityOr
-        ensures { λ r. ⌜ r ≡ eccentricityOf units ⌝ }
+    pub fn new(units: u32) -> CodedEccentricity
+        ensures { λ r. ⌜ r ≡ codedEccentricity units ⌝ }
     {
         if units <= Eccentricity::ONE {
-            EccentricityOr::Made(Eccentricity {
-                units: units as u64,
-            })
+            CodedEccentricity {
+                code: codes::DONE,
+                eccentricity: Eccentricity {
+                    units: units as u64,
+                },
+            }
         } else {
-            EccentricityOr::Refused(codes::A_ABOVE_ONE)
+            CodedEccentricity {
+                code: codes::BAD_A,
+                eccentricity: Eccentricity { units: 0 },
+            }
         }
     }
 }
@@ -67,9 +81,10 @@ pub struct Depth {
     pub pairs: u32,
 }
 
-pub enum DepthOr {
-    Made(Depth),
-    Refused(u32),
+// A code, and with code 0 the depth.
+pub struct CodedDepth {
+    pub code: u32,
+    pub depth: Depth,
 }
 
 impl Depth {
@@ -77,31 +92,38 @@ impl Depth {
 
     pub const GREATEST: u32 = 5;
 
-    pub fn new(pairs: u32) -> DepthOr
-        ensures { λ r. ⌜ r ≡ depthOf pairs ⌝ }
+    pub fn new(pairs: u32) -> CodedDepth
+        ensures { λ r. ⌜ r ≡ codedDepth pairs ⌝ }
     {
-        if pairs < Depth::LEAST {
-            return DepthOr::Refused(codes::DEPTH_NOT_1_TO_5);
+        if Depth::LEAST <= pairs {
+            if pairs <= Depth::GREATEST {
+                return CodedDepth {
+                    code: codes::DONE,
+                    depth: Depth { pairs },
+                };
+            }
         }
-        if pairs <= Depth::GREATEST {
-            DepthOr::Made(Depth { pairs })
-        } else {
-            DepthOr::Refused(codes::DEPTH_NOT_1_TO_5)
+        CodedDepth {
+            code: codes::BAD_DEPTH,
+            depth: Depth { pairs: 0 },
         }
     }
 }
 
-const T: u64 = Angle::T as u64;
+// T and one radian, for angles in 64 bits.
+pub const T: u64 = Angle::T as u64;
 
-// x - n, or 0 where that is below 0.
-pub fn lowered(x: u64, n: u64) -> u64
+pub const ONE: u64 = Eccentricity::ONE as u64;
+
+// n units below x, or 0 where that is below 0.
+pub fn step_down(x: u64, n: u64) -> u64
     ensures { λ r. ⌜ r ≡ x - n ⌝ }
 {
     if x < n { 0 } else { x - n }
 }
 
-// x + n, or T where that is above T.
-pub fn raised(x: u64, n: u64) -> u64
+// n units above x, or T where that is above T.
+pub fn step_up(x: u64, n: u64) -> u64
     ensures { λ r. ⌜ r ≡ min (x + n) T-units ⌝ }
 {
     if x <= T {

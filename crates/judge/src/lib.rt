@@ -140,7 +140,7 @@ fn checked(claim: Claim) -> CaseOr
                             d,
                         })
                     } else {
-                        CaseOr::Refused(codes::N_ABOVE_LIMIT)
+                        CaseOr::Refused(codes::BAD_N)
                     }
                 }
             },

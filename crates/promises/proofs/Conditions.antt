@@ -50,8 +50,8 @@ conditions =
       estimate = off-range;
       n = λ n. less _ _;
       top = λ o d. fails (upperEnd o d T-units);
-      claims-length = λ bytes. differ _ _;
-      answers-short = λ bytes room. less _ _;
+      bad-length = λ bytes. differ _ _;
+      short-answers = λ bytes room. less _ _;
       reserved = λ claims start. rw (one-byte claims (start + 19)) (differ _ _);
       x = λ x. less _ _;
     }

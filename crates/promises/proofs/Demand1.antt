@@ -4,7 +4,7 @@ use mathlib.Core.Bool.{Bool, true, false}
 use mathlib.Core.List.{List, [], _∷_}
 use Prim.Native.Nat.{ℕ, _*_, _/_}
 use lib.ListN.{length}
-use Rattle.grid.specs.Codes.{Code, number, order, answer, done, m-above-H, a-above-one, depth-not-1-to-5, estimate-off-range, n-above-limit, T-no-upper-end, claims-length, answers-short, reserved-not-zero, x-above-T}
+use Rattle.grid.specs.Codes.{Code, number, order, answer, done, bad-m, bad-a, bad-depth, bad-estimate, bad-n, no-upper-end, bad-length, short-answers, bad-reserved, bad-x}
 use Rattle.grid.specs.Make.{angleSays, eccentricitySays, depthSays}
 use Rattle.grid.specs.declared.AngleOr.the-variants as angle
 use Rattle.grid.specs.declared.EccentricityOr.the-variants as eccentricity
@@ -51,16 +51,16 @@ verdict-code Undecided = refl
 
 code-byte : (k : Code) → codeOfByte (number k) ≡ number k
 code-byte done = refl
-code-byte m-above-H = refl
-code-byte a-above-one = refl
-code-byte depth-not-1-to-5 = refl
-code-byte estimate-off-range = refl
-code-byte n-above-limit = refl
-code-byte T-no-upper-end = refl
-code-byte claims-length = refl
-code-byte answers-short = refl
-code-byte reserved-not-zero = refl
-code-byte x-above-T = refl
+code-byte bad-m = refl
+code-byte bad-a = refl
+code-byte bad-depth = refl
+code-byte bad-estimate = refl
+code-byte bad-n = refl
+code-byte no-upper-end = refl
+code-byte bad-length = refl
+code-byte short-answers = refl
+code-byte bad-reserved = refl
+code-byte bad-x = refl
 
 -- the byte of a record by all the record's checks
 pub byte-is : (claims : List ℕ) (i : ℕ)

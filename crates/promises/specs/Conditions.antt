@@ -41,9 +41,9 @@ pub record Conditions : Type 0 where
   -- code 6
   pub top : (o : Orbit) (d : ℕ) → Exactly (T-check o d) (T (upperEnd o d T-units) → ⊥)
   -- code 7
-  pub claims-length : (bytes : ℕ) → Exactly (length-check twenty bytes) (bytes % 20 ≡ 0 → ⊥)
+  pub bad-length : (bytes : ℕ) → Exactly (length-check twenty bytes) (bytes % 20 ≡ 0 → ⊥)
   -- code 8
-  pub answers-short : (bytes room : ℕ) → Exactly (answers-check twenty bytes room) (room < bytes / 20)
+  pub short-answers : (bytes room : ℕ) → Exactly (answers-check twenty bytes room) (room < bytes / 20)
   -- code 9: the last of the record's 20 bytes
   pub reserved : (claims : List ℕ) (start : ℕ)
       → Exactly (reserved-check twenty claims start) (getD claims (start + 19) 0 ≡ 0 → ⊥)

@@ -10,7 +10,7 @@ use lib.Ieee.{Float, binary64, ofBits, fits, mul}
 use lib.Ieee.Positive.{den}
 use lib.ListN.{length}
 use Rattle.grid.specs.Grid.{one, H-units, T-units, depths}
-use Rattle.grid.specs.Codes.{number, done, T-no-upper-end}
+use Rattle.grid.specs.Codes.{number, done, no-upper-end}
 use Rattle.series.specs.Exact as exact
 use Rattle.series.specs.Factorial.{factorial}
 use Rattle.series.specs.Sine.{sine, Lo, Hi}
@@ -58,7 +58,7 @@ pub record Searches : Type 0 where
   -- R25: the last bracket of a search is closed, for any test and any top up to 2^30
   pub closed : (test : ℕ → Bool) (top : ℕ) → 0 < top → top ≤ 2 ^ 30 → lastBracket test top .q ≡ lastBracket test top .p + 1
   -- R28
-  pub never-6 : (m a d : ℕ) → 4 ≤ d → enclosureRule m a d .code ≡ number T-no-upper-end → ⊥
+  pub never-6 : (m a d : ℕ) → 4 ≤ d → enclosureRule m a d .code ≡ number no-upper-end → ⊥
 
 pub record Proposals : Type 0 where
   -- R33: 25 entries, each the floor of its fraction, and no fraction over 0

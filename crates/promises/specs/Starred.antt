@@ -7,7 +7,7 @@ use lib.IntN.{pos, negsuc}
 use lib.Ieee.{binary64, ofBits}
 use lib.ListN.{length}
 use Rattle.grid.specs.Grid.{one, H-units, T-units, depths}
-use Rattle.grid.specs.Codes.{Code, number, done, m-above-H, a-above-one, estimate-off-range, x-above-T, T-no-upper-end}
+use Rattle.grid.specs.Codes.{Code, number, done, bad-m, bad-a, bad-estimate, bad-x, no-upper-end}
 use Rattle.series.specs.Bounds.{rawLow, rawHigh}
 use Rattle.series.specs.Sine as series
 use Rattle.series.specs.Entry.{sineRule}
@@ -88,7 +88,7 @@ starred =
     ∷ upper 42502279 one 268435456 1 true
     ∷ upper 42502280 one 268435456 1 false
     ∷ ends 0 one 5 done 0 0
-    ∷ ends H-units one 1 T-no-upper-end 0 0
+    ∷ ends H-units one 1 no-upper-end 0 0
     -- the estimate 2^-1074
     ∷ estimate 1 0 1
     ∷ []
@@ -108,14 +108,14 @@ unfoldable pub others : List Row
 others =
     -- each limit, and one more
     code H-units one T-units done
-    ∷ code (H-units + 1) one T-units m-above-H
+    ∷ code (H-units + 1) one T-units bad-m
     ∷ code 0 one T-units done
-    ∷ code 0 (one + 1) T-units a-above-one
+    ∷ code 0 (one + 1) T-units bad-a
     ∷ code 0 0 T-units done
-    ∷ code 0 0 (T-units + 1) x-above-T
+    ∷ code 0 0 (T-units + 1) bad-x
     -- T units in radians, and the next double above them
     ∷ estimate-code 0x400921fb74000000 done
-    ∷ estimate-code 0x400921fb74000001 estimate-off-range
+    ∷ estimate-code 0x400921fb74000001 bad-estimate
     -- M = 0, e = 1: the estimates 2^-9, whose residual is small (R58), and 2^-8; and 0 with two tolerances, of which the
     -- wider loses the verdict (R47)
     ∷ judged 0 one 0x3f60000000000000 1000 5 Undecided

@@ -7,7 +7,7 @@ use lib.Ieee.{Float, nan, inf, fin}
 use lib.Ieee.Positive.{num, den}
 use Rattle.whole.specs.Round.{down, up}
 use Rattle.grid.specs.Grid.{one, T-units}
-use Rattle.grid.specs.Codes.{Check, number, done, or, answer, estimate-off-range}
+use Rattle.grid.specs.Codes.{Check, number, done, or, answer, bad-estimate}
 use Rattle.grid.specs.Said.{Said}
 use Rattle.units.specs.declared.Units.{Units}
 use Rattle.units.specs.declared.UnitsOr.{UnitsOr}
@@ -29,7 +29,7 @@ offRange (fin s m e) = or (s && ltb 0 m) (ltb (T-units * den (fin s m e)) (produ
 
 -- R5: code 4, an estimate that is off range
 abbrev pub estimate-check : Float → Check
-estimate-check x = record { fails = offRange x; code = estimate-off-range }
+estimate-check x = record { fails = offRange x; code = bad-estimate }
 
 -- R41: f and c of an estimate, or code 4
 abbrev pub unitsOf : Float → UnitsOr

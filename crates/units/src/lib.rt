@@ -33,5 +33,5 @@ pub fn in_units(estimate: f64) -> UnitsOr
             return UnitsOr::Made(Units { f, c });
         }
     }
-    UnitsOr::Refused(codes::ESTIMATE_OFF_RANGE)
+    UnitsOr::Refused(codes::BAD_ESTIMATE)
 }

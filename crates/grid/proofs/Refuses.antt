@@ -1,5 +1,5 @@
 -- An answer that begins with checks refuses as the first demand asks, whatever the entry. Assumes nothing.
-use mathlib.Core.Path.{_≡_, refl, sym, ap, subst, _∙_}
+use mathlib.Core.Path.{_≡_, refl, sym, ap, _∙_}
 use mathlib.Core.Bool.{Bool, true, false, cond, true≢false}
 use mathlib.Core.List.{List, [], _∷_}
 use mathlib.Core.Logic.{_⊎_, inl, inr, _↔_}
@@ -7,13 +7,9 @@ use Prim.Native.Nat.{ℕ, _<_}
 use native.Mathlib.Omega.{arith}
 use lib.Dec.{T, ltb, ltb→lt}
 use Rattle.whole.proofs.Table.{both-parts}
-use Rattle.grid.specs.Codes.{Code, Check, number, first, answer, Passed}
-use Rattle.grid.specs.Said.{Said}
-use Rattle.promises.specs.Refuses.{FirstFails, Refuses, all}
-
--- no code of a check is 0
-abbrev pub coded : List Check → Bool
-coded cs = all (λ (c : Check). ltb 0 (number (c .code))) cs
+use Rattle.grid.specs.Codes.{Code, Check, number, firstCode, checked, Passed}
+use Rattle.grid.specs.Refuses.{FirstFails, Refuses}
+use Rattle.grid.proofs.FirstCode.{coded, CodeOf, goes, passed}
 
 module _ {A : Type 0} (code : A → ℕ) (zeros : ℕ → A) where
   -- one check more: it fails, or the rest answers
@@ -49,46 +45,63 @@ module _ {A : Type 0} (code : A → ℕ) (zeros : ℕ → A) where
     others-step true h f = ap zeros (sym own)
     others-step false h f = h f
 
+-- the refusal of each of these checks has the check's own code
+abbrev pub Own : {A : Type 0} → (A → ℕ) → (ℕ → A) → List Check → Type 0
+Own code zeros [] = Unit {0}
+Own code zeros (c ∷ cs) = (code (zeros (number (c .code))) ≡ number (c .code)) × Own code zeros cs
+
 -- every refusal has its code, and what is given has code 0
-module _ {A : Type 0} {code : A → ℕ} {zeros : ℕ → A}
-    (own : (k : Code) → code (zeros (number k)) ≡ number k) (given : A) (zero : code given ≡ 0) where
-  pub refuses : {cs : List Check} → T (coded cs) → Refuses cs code zeros (answer cs zeros given)
-  refuses {cs = []} t =
+module _ {A : Type 0} (code : A → ℕ) (zeros : ℕ → A) (given : A) (zero : code given ≡ 0) where
+  pub refuses : (cs : List Check) → Own code zeros cs → T (coded cs) → Refuses cs code zeros (checked cs zeros given)
+  refuses [] own t =
       record {
         named = zero;
         coded = λ k some. (λ e. some (sym e ∙ zero), λ f. absurd f);
         passed = (λ e. tt, λ p. zero);
         others = λ f. absurd (f zero);
       }
-  refuses {cs = c ∷ cs} t =
+  refuses (c ∷ cs) own t =
       let n = number (c .code) in
-      let r = answer cs zeros given in
+      let r = checked cs zeros given in
       let b = both-parts (ltb 0 n) (coded cs) t in
-      let h = refuses {cs = cs} (b .1) in
-      let o = own (c .code) in
+      let h = refuses cs (own .1) (b .1) in
+      let o = own .0 in
       record {
-        named = named-step code zeros n o r (c .fails) (c .code) (first cs) refl (h .named);
+        named = named-step code zeros n o r (c .fails) (c .code) (firstCode cs) refl (h .named);
         coded = λ k some. coded-step code zeros n o r (c .fails) k (FirstFails k cs) (h .coded k some);
         passed = passed-step code zeros n o r (c .fails) (Passed cs) (ltb→lt 0 n (b .0)) (h .passed);
         others = others-step code zeros n o r (c .fails) (h .others);
       }
 
+-- An answer by checks whose refusals keep the code they are given: it refuses as the first demand asks, its code is that of
+-- its checks, and with code 0 it is what is given.
+pub record Makes {A : Type 0} (cs : List Check) (code : A → ℕ) (zeros : ℕ → A) (given : A) : Type 0 where
+  pub demand : Refuses cs code zeros (checked cs zeros given)
+  pub code-is : (r : A) → r ≡ checked cs zeros given → CodeOf cs (code r)
+  pub value-is : (r : A) → r ≡ checked cs zeros given → code r ≡ 0 → r ≡ given
+
+pub makes : {A : Type 0} {cs : List Check} {code : A → ℕ} {zeros : ℕ → A} {given : A}
+    → code given ≡ 0 → ((k : ℕ) → code (zeros k) ≡ k) → T (coded cs) → Makes cs code zeros given
+makes {A} {cs} {code} {zeros} {given} zero keeps t =
+    let h = refuses code zeros given zero cs (own cs) t in
+    record {
+      demand = h;
+      code-is = λ r e. ap code e ∙ h .named;
+      value-is = λ r e z. e ∙ goes cs (passed cs t (code r) (ap code e ∙ h .named) z) zeros given;
+    }
+  where
+    own : (ds : List Check) → Own code zeros ds
+    own [] = tt
+    own (c ∷ ds) = (keeps (number (c .code)), own ds)
+
 -- a function of an answer is an answer with that function of each refusal, and of what is given
 pub through : {A B : Type 0} (f : A → B) (zeros : ℕ → A) (given : A) (cs : List Check)
-    → f (answer cs zeros given) ≡ answer cs (λ (k : ℕ). f (zeros k)) (f given)
+    → f (checked cs zeros given) ≡ checked cs (λ (k : ℕ). f (zeros k)) (f given)
 through f zeros given [] = refl
 through {A} {B} f zeros given (c ∷ cs) =
-    either (c .fails) (zeros (number (c .code))) (answer cs zeros given)
+    either (c .fails) (zeros (number (c .code))) (checked cs zeros given)
     ∙ ap (λ (b : B). cond (c .fails) (f (zeros (number (c .code)))) b) (through f zeros given cs)
   where
     either : (t : Bool) (x y : A) → f (cond t x y) ≡ cond t (f x) (f y)
     either true x y = refl
     either false x y = refl
-
--- an enum that answers a value or a code, by what it says
-pub said : {A B : Type 0} (says : A → Said B) (refused : ℕ → A) → ((k : Code) → says (refused (number k)) .code ≡ number k)
-    → (made : A) → says made .code ≡ 0 → {cs : List Check} → T (coded cs)
-    → Refuses cs (λ (s : Said B). s .code) (λ k. says (refused k)) (says (answer cs refused made))
-said {A} {B} says refused own made zero {cs} t =
-    subst (Refuses cs (λ (s : Said B). s .code) (λ k. says (refused k))) (sym (through says refused made cs))
-    (refuses own (says made) zero t)

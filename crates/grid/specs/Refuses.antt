@@ -5,7 +5,7 @@ use mathlib.Core.List.{List, [], _∷_}
 use mathlib.Core.Logic.{_⊎_, _↔_}
 use Prim.Native.Nat.{ℕ}
 use lib.Dec.{eqb}
-use Rattle.grid.specs.Codes.{Code, Check, number, done, first, Passed}
+use Rattle.grid.specs.Codes.{Code, Check, number, done, firstCode, Passed}
 
 -- a check with the number k fails, and none before it does
 abbrev pub FirstFails : ℕ → List Check → Type 0
@@ -17,7 +17,7 @@ FirstFails k (c ∷ cs) =
 -- other numbers are all 0
 pub record Refuses {A : Type 0} (checks : List Check) (code : A → ℕ) (zeros : ℕ → A) (r : A) : Type 0 where
   -- R6: the code is that of the first check that fails
-  pub named : code r ≡ number (first checks)
+  pub named : code r ≡ number (firstCode checks)
   -- R5: a code is answered exactly when its check fails and none before it does
   pub coded : (k : ℕ) → (k ≡ number done → ⊥) → code r ≡ k ↔ FirstFails k checks
   -- R5: and `done` exactly when no check fails

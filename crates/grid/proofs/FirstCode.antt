@@ -1,0 +1,69 @@
+-- What the code of a call's checks says: where it is 0 all of them passed, else the call is refused with it; and the code of
+-- checks one after the other. Assumes nothing.
+use mathlib.Core.Path.{_≡_, refl, sym, ap, _∙_}
+use mathlib.Core.Bool.{Bool, true, false, cond}
+use mathlib.Core.List.{List, [], _∷_, _++_}
+use Prim.Native.Nat.{ℕ, _<_}
+use native.Mathlib.Omega.{arith}
+use borrow.Author.Tests.{eq-eqb, ne-eqb}
+use lib.Dec.{T, ltb, ltb→lt}
+use Rattle.whole.proofs.Table.{both-parts}
+use Rattle.grid.specs.Codes.{Code, Check, number, done, firstCode, earlier, checked, Passed}
+use Rattle.grid.specs.Refuses.{all}
+
+-- no code of a check is 0
+abbrev pub coded : List Check → Bool
+coded cs = all (λ (c : Check). ltb 0 (number (c .code))) cs
+
+-- n is the code of a call with these checks
+abbrev pub CodeOf : List Check → ℕ → Type 0
+CodeOf cs n = n ≡ number (firstCode cs)
+
+pub of-one : (t : Bool) (k : Code) → cond t (number k) 0 ≡ number (cond t k done)
+of-one true k = refl
+of-one false k = refl
+
+-- where all checks pass, any answer that begins with them goes on
+pub goes : {A : Type 0} (cs : List Check) → Passed cs → (refused : ℕ → A) (given : A) → checked cs refused given ≡ given
+goes [] p refused given = refl
+goes {A} (c ∷ cs) p refused given =
+    ap (λ (t : Bool). cond t (refused (number (c .code))) (checked cs refused given)) (p .0) ∙ goes cs (p .1) refused given
+
+-- where the code is not 0, any answer that begins with them is refused with it
+pub stops : {A : Type 0} (cs : List Check) (n : ℕ) → CodeOf cs n → (n ≡ 0 → ⊥) → (refused : ℕ → A) (given : A)
+    → checked cs refused given ≡ refused n
+stops [] n e some refused given = absurd (some e)
+stops {A} (c ∷ cs) n e some refused given = step (c .fails) (λ h. stops cs n h some refused given) e
+  where
+    step : (t : Bool) → (CodeOf cs n → checked cs refused given ≡ refused n) → n ≡ number (cond t (c .code) (firstCode cs))
+        → cond t (refused (number (c .code))) (checked cs refused given) ≡ refused n
+    step true rest h = ap refused (sym h)
+    step false rest h = rest h
+
+-- where it is 0, all checks passed
+pub passed : (cs : List Check) → T (coded cs) → (n : ℕ) → CodeOf cs n → n ≡ 0 → Passed cs
+passed [] t n e z = tt
+passed (c ∷ cs) t n e z =
+    let (some, named) = both-parts (ltb 0 (number (c .code))) (coded cs) t in
+    step (c .fails) refl (ltb→lt 0 (number (c .code)) some) (λ h. passed cs named n h z) e
+  where
+    step : (f : Bool) → c .fails ≡ f → 0 < number (c .code) → (CodeOf cs n → Passed cs)
+        → n ≡ number (cond f (c .code) (firstCode cs)) → Passed (c ∷ cs)
+    step true p some rest h = absurd (let w : ⊥ = omega arith in w)
+    step false p some rest h = (p, rest h)
+
+-- checks one after the other
+pub in-turn : (cs ds : List Check) → T (coded cs) → (j k : ℕ) → CodeOf cs j → CodeOf ds k → CodeOf (cs ++ ds) (earlier j k)
+in-turn [] ds t j k e f = rw e f
+in-turn (c ∷ cs) ds t j k e f =
+    let (some, named) = both-parts (ltb 0 (number (c .code))) (coded cs) t in
+    step (c .fails) (ltb→lt 0 (number (c .code)) some) (λ h. in-turn cs ds named j k h f) e
+  where
+    step : (b : Bool) → 0 < number (c .code) → (CodeOf cs j → CodeOf (cs ++ ds) (earlier j k))
+        → j ≡ number (cond b (c .code) (firstCode cs)) → earlier j k ≡ number (cond b (c .code) (firstCode (cs ++ ds)))
+    step true some rest h = rw (ne-eqb j 0 (λ z. let w : ⊥ = omega arith in w)) h
+    step false some rest h = rest h
+
+pub split : (cs ds : List Check) → Passed (cs ++ ds) → Passed cs × Passed ds
+split [] ds p = (tt, p)
+split (c ∷ cs) ds p = let q = split cs ds (p .1) in ((p .0, q .0), q .1)

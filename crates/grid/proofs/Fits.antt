@@ -1,0 +1,21 @@
+-- What a check that passed says of its number. Assumes nothing.
+use mathlib.Core.Path.{_≡_, refl}
+use mathlib.Core.Bool.{Bool, true, false}
+use Prim.Native.Nat.{ℕ, _≤_}
+use borrow.Author.Tests.{ltb-false, le-ltb}
+use Rattle.grid.specs.Grid.{depths}
+use Rattle.grid.specs.Codes.{Code, or, limit-check, depth-check}
+use Rattle.grid.specs.Limits.{DepthIn}
+
+pub limit-fits : (n limit : ℕ) (k : Code) → limit-check n limit k .fails ≡ false → n ≤ limit
+limit-fits n limit k e = ltb-false limit n e
+
+neither : (s t : Bool) → or s t ≡ false → (s ≡ false) × (t ≡ false)
+neither true t e = (e, cc)
+neither false t e = (refl, e)
+
+pub depth-fits : (d : ℕ) → depth-check d .fails ≡ false → DepthIn (record { pairs = d })
+depth-fits d e = let w = neither _ _ e in record { some = ltb-false d 1 (w .0); few = ltb-false depths d (w .1) }
+
+pub depth-passes : (d : ℕ) → 1 ≤ d → d ≤ depths → depth-check d .fails ≡ false
+depth-passes d some few = simp (le-ltb d 1 some, le-ltb depths d few)
