@@ -5,10 +5,10 @@ use mathlib.Core.Bool.{Bool, true, false, cond}
 use mathlib.Core.List.{List, [], _∷_, _++_}
 use Prim.Native.Nat.{ℕ, _<_}
 use native.Mathlib.Omega.{arith}
-use borrow.Author.Tests.{eq-eqb, ne-eqb}
-use lib.Dec.{T, ltb, ltb→lt}
+use borrow.Author.Tests.{ne-eqb, eqb-true, eqb-false}
+use lib.Dec.{T, ltb, eqb, ltb→lt}
 use Rattle.whole.proofs.Table.{both-parts}
-use Rattle.grid.specs.Codes.{Code, Check, number, done, firstCode, earlier, checked, Passed}
+use Rattle.grid.specs.Codes.{Code, Check, number, done, limit-check, firstCode, earlier, checked, Passed}
 use Rattle.grid.specs.Refuses.{all}
 
 -- no code of a check is 0
@@ -19,9 +19,13 @@ coded cs = all (λ (c : Check). ltb 0 (number (c .code))) cs
 abbrev pub CodeOf : List Check → ℕ → Type 0
 CodeOf cs n = n ≡ number (firstCode cs)
 
-pub of-one : (t : Bool) (k : Code) → cond t (number k) 0 ≡ number (cond t k done)
+of-one : (t : Bool) (k : Code) → cond t (number k) 0 ≡ number (cond t k done)
 of-one true k = refl
 of-one false k = refl
+
+-- the code of a number's limit
+pub limit-code : (n limit : ℕ) (k : Code) (code : ℕ) → code ≡ cond (ltb limit n) (number k) 0 → CodeOf (limit-check n limit k ∷ []) code
+limit-code n limit k code e = e ∙ of-one (ltb limit n) k
 
 -- where all checks pass, any answer that begins with them goes on
 pub goes : {A : Type 0} (cs : List Check) → Passed cs → (refused : ℕ → A) (given : A) → checked cs refused given ≡ given
@@ -63,6 +67,14 @@ in-turn (c ∷ cs) ds t j k e f =
         → j ≡ number (cond b (c .code) (firstCode cs)) → earlier j k ≡ number (cond b (c .code) (firstCode (cs ++ ds)))
     step true some rest h = rw (ne-eqb j 0 (λ z. let w : ⊥ = omega arith in w)) h
     step false some rest h = rest h
+
+-- with no code neither had one
+pub neither-code : (j k : ℕ) → earlier j k ≡ 0 → (j ≡ 0) × (k ≡ 0)
+neither-code j k e = by (eqb j 0) refl e
+  where
+    by : (t : Bool) → eqb j 0 ≡ t → cond t k j ≡ 0 → (j ≡ 0) × (k ≡ 0)
+    by true p h = (eqb-true j 0 p, h)
+    by false p h = absurd (eqb-false j 0 p h)
 
 pub split : (cs ds : List Check) → Passed (cs ++ ds) → Passed cs × Passed ds
 split [] ds p = (tt, p)

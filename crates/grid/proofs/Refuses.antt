@@ -9,7 +9,7 @@ use lib.Dec.{T, ltb, ltb→lt}
 use Rattle.whole.proofs.Table.{both-parts}
 use Rattle.grid.specs.Codes.{Code, Check, number, firstCode, checked, Passed}
 use Rattle.grid.specs.Refuses.{FirstFails, Refuses}
-use Rattle.grid.proofs.FirstCode.{coded, CodeOf, goes, passed}
+use Rattle.grid.proofs.FirstCode.{coded, CodeOf, goes, stops, passed}
 
 module _ {A : Type 0} (code : A → ℕ) (zeros : ℕ → A) where
   -- one check more: it fails, or the rest answers
@@ -79,6 +79,10 @@ pub record Makes {A : Type 0} (cs : List Check) (code : A → ℕ) (zeros : ℕ 
   pub demand : Refuses cs code zeros (checked cs zeros given)
   pub code-is : (r : A) → r ≡ checked cs zeros given → CodeOf cs (code r)
   pub value-is : (r : A) → r ≡ checked cs zeros given → code r ≡ 0 → r ≡ given
+  -- of a code that the checks have: with 0 they all passed, and what is given is answered; else the refusal is
+  pub passed-by : (n : ℕ) → CodeOf cs n → n ≡ 0 → Passed cs
+  pub given-by : (n : ℕ) → CodeOf cs n → n ≡ 0 → (r : A) → r ≡ given → r ≡ checked cs zeros given
+  pub refused-by : (n : ℕ) → CodeOf cs n → (n ≡ 0 → ⊥) → (r : A) → r ≡ zeros n → r ≡ checked cs zeros given
 
 pub makes : {A : Type 0} {cs : List Check} {code : A → ℕ} {zeros : ℕ → A} {given : A}
     → code given ≡ 0 → ((k : ℕ) → code (zeros k) ≡ k) → T (coded cs) → Makes cs code zeros given
@@ -88,6 +92,9 @@ makes {A} {cs} {code} {zeros} {given} zero keeps t =
       demand = h;
       code-is = λ r e. ap code e ∙ h .named;
       value-is = λ r e z. e ∙ goes cs (passed cs t (code r) (ap code e ∙ h .named) z) zeros given;
+      passed-by = passed cs t;
+      given-by = λ n c z r e. e ∙ sym (goes cs (passed cs t n c z) zeros given);
+      refused-by = λ n c some r e. e ∙ sym (stops cs n c some zeros given);
     }
   where
     own : (ds : List Check) → Own code zeros ds
