@@ -1,4 +1,5 @@
 pub mod Between
+pub mod CodeSine
 pub mod Deeper
 pub mod Depths
 pub mod Factorial
@@ -10,6 +11,7 @@ pub mod Range
 pub mod Raw
 pub mod Rise
 pub mod Sides
+pub mod SineRefuses
 pub mod Sums
 pub mod True
 pub mod Truth

@@ -3,19 +3,11 @@ use Prim.Native.Nat.{ℕ, zero, suc, _+_, _-_, _*_, _≤_, _<_}
 use mathlib.Core.Path.{_≡_}
 use lib.IntN.{ℤ, pos, negsuc}
 use Rattle.grid.specs.Grid.{T-units, depths}
-use Rattle.grid.specs.declared.Angle.{Angle}
-use Rattle.grid.specs.declared.Depth.{Depth}
 use Rattle.series.specs.Terms.{l, u, Q-, Q+}
 use Rattle.series.specs.Bounds.{evens, odds}
 use Rattle.series.specs.Sine.{sine, Lo, Hi}
 use Rattle.series.specs.declared.Walk.{Walk}
 use Rattle.series.specs.declared.Raised.{Raised}
-
--- R3: the limits that the checked constructors see to
-pub record OnGrid (x : Angle) (d : Depth) : Type 0 where
-  pub angle : x .units ≤ T-units
-  pub some : 1 ≤ d .pairs
-  pub few : d .pairs ≤ depths
 
 -- 2^34, by which a bound is raised
 abbrev pub raise : ℕ

@@ -4,12 +4,12 @@ ghost use lib.IntN.{subℕ};
 ghost use Prim.Native.Nat.{suc, _*_, _≤_, max, min};
 ghost use Rattle.grid.specs.Grid.{one, T-units};
 ghost use Rattle.whole.specs.Round.{down, up};
-ghost use Rattle.series.specs.Walk.{Small, Walking, Unfinished, OnGrid, raise, walk, raisedBounds};
+ghost use Rattle.grid.specs.Limits.{AngleIn, DepthIn};
+ghost use Rattle.series.specs.Walk.{Small, Walking, Unfinished, raise, walk, raisedBounds};
 ghost use Rattle.series.specs.Entry.{sineRule};
 use grid::Angle;
-use grid::AngleOr;
 use grid::Depth;
-use grid::DepthOr;
+use grid::codes;
 
 // Lo and Hi, each raised by 2^34 and so never below 0.
 pub struct Raised {
@@ -136,7 +136,7 @@ pub fn further(s: Walk) -> Walk
 
 // Lo and Hi, raised. The pairs stand one after the other, each with its divisors, which is faster than a choice for each.
 fn bounds_at(x: Angle, d: Depth) -> Raised
-    requires { ⌜ OnGrid x d ⌝ }
+    requires { ⌜ AngleIn x × DepthIn d ⌝ }
     ensures { λ r. ⌜ r ≡ raisedBounds (x .units) (d .pairs) ⌝ }
 {
     let n = d.pairs;
@@ -172,18 +172,16 @@ fn lowered(raised: u64) -> i64
 pub fn sine(x: u32, depth: u32) -> SineBounds
     ensures { λ r. ⌜ r ≡ sineRule x depth ⌝ }
 {
-    match Depth::new(depth) {
-        DepthOr::Refused(code) => SineBounds { code, lo: 0, hi: 0 },
-        DepthOr::Made(d) => match Angle::new(x) {
-            AngleOr::Refused(code) => SineBounds { code, lo: 0, hi: 0 },
-            AngleOr::Made(a) => {
-                let b = bounds_at(a, d);
-                SineBounds {
-                    code: 0,
-                    lo: lowered(b.lo),
-                    hi: lowered(b.hi),
-                }
-            }
-        },
+    let made_depth = Depth::new(depth);
+    let made_angle = Angle::new(x);
+    let code = codes::earlier(made_depth.code, made_angle.code);
+    if code != codes::DONE {
+        return SineBounds { code, lo: 0, hi: 0 };
+    }
+    let b = bounds_at(made_angle.angle, made_depth.depth);
+    SineBounds {
+        code,
+        lo: lowered(b.lo),
+        hi: lowered(b.hi),
     }
 }

@@ -41,7 +41,7 @@ begin-requires : tie.Need-begin-requires
 begin-requires c κs = search needs
 
 deepen-requires : tie.Need-deepen-requires
-deepen-requires c κs = at-pair _ _ 0 (c .begin .ensures) (c .before .pre .angle) (lit< tt)
+deepen-requires c κs = at-pair _ _ 0 (c .begin .ensures) (c .before .pre .0 .top) (lit< tt)
 
 returns : tie.Need-returns
 returns c = at-depth _ _ 0 _ (after-1 (c .before)) (c .if1 .taken)
@@ -68,7 +68,11 @@ deepen-requires-5 : tie.Need-deepen-requires-5
 deepen-requires-5 c κs = at-pair _ _ 4 (after-4 (c .before)) (omega arith) (lit< tt)
 
 returns-5 : tie.Need-returns-5
-returns-5 c = at-depth _ _ 4 _ (after-5 c) (omega arith)
+returns-5 c =
+    let depth = c .before .before .before .before .before .before .before .before .before .before .pre .1 in
+    let some = depth .some in
+    let few = depth .few in
+    at-depth _ _ 4 _ (after-5 c) (omega arith)
 
 pub bounds-at-spec : {M : Type 1} → statement M
 bounds-at-spec =

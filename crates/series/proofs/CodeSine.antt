@@ -1,0 +1,81 @@
+-- The entry `sine`: its two checks in their order, and where both pass the bounds. Assumes nothing.
+use mathlib.Core.Path.{_≡_, sym, ap, ap₂, subst, _∙_}
+use mathlib.Core.List.{[], _∷_}
+use Prim.Native.Nat.{ℕ, _*_, _≤_}
+use lib.IntN.{ℤ, subℕ}
+use mir.Syntax.{w64}
+use mir.Val.{toZ, ofZ}
+use Rattle.grid.specs.Grid.{T-units}
+use Rattle.grid.specs.Codes.{x-check, depth-check, bad-x, earlier, Passed}
+use Rattle.grid.specs.Limits.{AngleIn, DepthIn}
+use Rattle.grid.specs.Make.{codedAngle, codedDepth, angleWith, depthWith}
+use Rattle.grid.specs.declared.CodedAngle.{CodedAngle}
+use Rattle.grid.specs.declared.CodedDepth.{CodedDepth}
+use Rattle.grid.proofs.Made.{angles, depths-made}
+use Rattle.grid.proofs.FirstCode.{CodeOf, goes, stops, passed, in-turn}
+use Rattle.grid.proofs.Fits.{limit-fits, depth-fits}
+use Rattle.series.specs.Sine.{Lo, Hi}
+use Rattle.series.specs.Entry.{sineChecks, sineRefused, sineRule}
+use Rattle.series.specs.Walk.{raise, raisedBounds}
+use Rattle.series.specs.declared.Raised.{Raised}
+use Rattle.series.specs.declared.SineBounds.{SineBounds}
+use Rattle.series.proofs.Sides.{Lo-within, Hi-within}
+use Rattle.series.proofs.Raising.{Inside, raised-small, lowered-back}
+
+-- what the entry makes of its two numbers before it tests the code n
+pub record Made (x d n : ℕ) (a : CodedAngle) (b : CodedDepth) : Type 0 where
+  pub angle : a ≡ codedAngle x
+  pub depth : b ≡ codedDepth d
+  pub code : n ≡ earlier (b .code) (a .code)
+
+module _ {x d n : ℕ} {a : CodedAngle} {b : CodedDepth} (m : Made x d n a b) where
+  code-is : CodeOf (sineChecks x d) n
+  code-is =
+      m .code ∙ in-turn (depth-check d ∷ []) (x-check x ∷ []) tt _ _ (depths-made d .code-is b (m .depth)) (angles x .code-is a (m .angle))
+
+  pub refused : (n ≡ 0 → ⊥) → sineRefused n ≡ sineRule x d
+  unfolding sineRule
+  refused some = sym (stops (sineChecks x d) n code-is some sineRefused _)
+
+  module _ (none : n ≡ 0) where
+    fit : Passed (sineChecks x d)
+    fit = passed (sineChecks x d) tt n code-is none
+
+    angle-is : a ≡ angleWith 0 x
+    angle-is = m .angle ∙ goes (x-check x ∷ []) (fit .1) (λ k. angleWith k 0) (angleWith 0 x)
+
+    depth-is : b ≡ depthWith 0 d
+    depth-is = m .depth ∙ goes (depth-check d ∷ []) (fit .0, tt) (λ k. depthWith k 0) (depthWith 0 d)
+
+    angle-in : x ≤ T-units
+    angle-in = limit-fits x T-units bad-x (fit .1 .0)
+
+    pub on-grid : AngleIn (a .angle) × DepthIn (b .depth)
+    on-grid = (
+      subst (λ (t : CodedAngle). AngleIn (t .angle)) (sym angle-is) (record { top = angle-in }),
+      subst (λ (t : CodedDepth). DepthIn (t .depth)) (sym depth-is) (depth-fits d (fit .0)),
+    )
+
+    module _ (r : Raised) (bounds : r ≡ raisedBounds (a .angle .units) (b .depth .pairs)) where
+      found : r ≡ raisedBounds x d
+      found =
+          bounds
+          ∙ ap₂ raisedBounds (ap (λ (t : CodedAngle). t .angle .units) angle-is) (ap (λ (t : CodedDepth). t .depth .pairs) depth-is)
+
+      lo-in : Inside (Lo x d)
+      lo-in = Lo-within x d angle-in (depth-fits d (fit .0) .few)
+
+      hi-in : Inside (Hi x d)
+      hi-in = Hi-within x d angle-in (depth-fits d (fit .0) .few)
+
+      pub small : (r .lo ≤ 2 * raise) × (r .hi ≤ 2 * raise)
+      small =
+          subst (λ (t : Raised). (t .lo ≤ 2 * raise) × (t .hi ≤ 2 * raise)) (sym found) (raised-small _ lo-in, raised-small _ hi-in)
+
+      pub answered : (lo hi : ℤ) → lo ≡ subℕ (r .lo) raise → hi ≡ subℕ (r .hi) raise →
+          _≡_ {A = SineBounds} record { code = n; lo = toZ w64 (ofZ w64 lo); hi = toZ w64 (ofZ w64 hi) } (sineRule x d)
+      unfolding sineRule
+      answered lo hi e f =
+          let p = lowered-back lo (r .lo) _ e (ap (λ (t : Raised). t .lo) found) lo-in in
+          let q = lowered-back hi (r .hi) _ f (ap (λ (t : Raised). t .hi) found) hi-in in
+          cc (p, q, none) ∙ sym (goes (sineChecks x d) fit sineRefused (record { code = 0; lo = Lo x d; hi = Hi x d }))
