@@ -5,18 +5,20 @@ use native.Mathlib.Omega.{arith}
 use native.Mathlib.Nat.{mul-le-mul-left}
 use lib.Dec.{T, ltb, not-T, ltb→lt, nltb→le}
 use Rattle.grid.specs.Grid.{one, T-units, depths}
-use Rattle.series.specs.Sine.{sine, den9}
+use Rattle.series.specs.Sine.{sine, Lo, Hi, den9}
 use Rattle.series.proofs.Sums.{same, other}
 use Rattle.series.proofs.Range.{sine-divides}
 use Rattle.series.proofs.Truth.{den-pos}
 use Rattle.series.proofs.Next.{drop-last}
 use Rattle.series.proofs.Rise.{sine-rises}
-use Rattle.ends.specs.declared.Orbit.{Orbit}
+use Rattle.orbit.specs.Cell.{Orbit, orbitAt, CellIn}
+use Rattle.orbit.specs.declared.Cell.{Cell}
 use Rattle.ends.specs.Ends.{lowerEnd, upperEnd}
 use Rattle.ends.specs.Exact.{LowerExact, UpperExact}
-use Rattle.ends.proofs.Both.{Spares}
+use Rattle.ends.proofs.Accepts.{Spares}
 use Rattle.ends.proofs.Tests.{lower-exact, upper-exact}
-use Rattle.ends.proofs.Exact.{lower-true, upper-true}
+use Rattle.ends.proofs.Corners.{below-corners, above-corners, lesser-mean}
+use Rattle.ends.proofs.Exact.{below-true, above-true}
 
 -- with u = a + b: a times the rise of x - S(x) and b times that of x are all of u, and neither can be undone
 gap : (u a b D X Y M sX oX sY oY : ℕ) → u ≡ a + b → 0 < u → 0 < D → Y < X
@@ -26,7 +28,7 @@ gap u a b D X Y M sX oX sY oY e some den above rise lower upper =
     let y : u * (Y * D) ≡ (a + b) * (Y * D) = ap (λ (k : ℕ). k * (Y * D)) e in
     omega (arith, mul-le-mul-left a rise, mul-le-mul-left (b * D) above, mul-le-mul-left b den)
 
-pub exact-apart : (o : Orbit) (X Y : ℕ) → o .a ≤ one → X ≤ T-units → LowerExact o X → UpperExact o Y → X ≤ Y
+exact-apart : (o : Orbit) (X Y : ℕ) → o .a ≤ one → X ≤ T-units → LowerExact o X → UpperExact o Y → X ≤ Y
 exact-apart o X Y e w p q = nltb→le Y X (not-T (ltb Y X) (λ t. clash (ltb→lt Y X t)))
   where
     last : Spares 0 (one * o .m) (one * Y) (o .a) den9 (same sine Y 9) (other sine Y 9)
@@ -40,8 +42,12 @@ exact-apart o X Y e w p q = nltb→le Y X (not-T (ltb Y X) (λ t. clash (ltb→l
         gap one (o .a) (one - o .a) den9 X Y (o .m) (same sine X 9) (other sine X 9) (same sine Y 9) (other sine Y 9)
         (omega arith) (omega arith) (den-pos sine sine-divides 9) above (sine-rises Y X above w) (lower-exact o X .0 p) last
 
--- R21: at any depths, equal or not
-pub apart : (o : Orbit) (X Y d e : ℕ) → o .a ≤ one → X ≤ T-units → Y ≤ T-units → d ≤ depths → e ≤ depths
-    → T (lowerEnd o d X) → T (upperEnd o e Y) → X ≤ Y
-apart o X Y d e small x y i j p q =
-    exact-apart o X Y small x (lower-true o X x d i p) (upper-true o Y y e j q)
+-- R21: of a cell, at any depths, equal or not: both tests hold at the corner of the least M and the least A
+pub apart : (c : Cell) (X Y d e : ℕ) → CellIn c → X ≤ T-units → Y ≤ T-units → d ≤ depths → e ≤ depths
+    → T (lowerEnd c d X) → T (upperEnd c e Y) → X ≤ Y
+apart c X Y d e i x y j k p q =
+    let o = orbitAt (c .m .down) (c .a .down) in
+    let l = i .shapes in
+    let h = i .shape in
+    exact-apart o X Y (omega arith) x (below-true o X x d j (below-corners c X (Lo X d) .0 p .0))
+    (above-true o Y y e k (lesser-mean (c .m .down) (c .m .up) (c .a .down) Y (Hi Y e) (i .means) (above-corners c Y (Hi Y e) .0 q .0)))

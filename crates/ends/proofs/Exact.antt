@@ -1,4 +1,4 @@
--- R19, R20 and R22: what acceptance says, what refusal says at depth 5, and that a deeper test accepts no less. Assumes nothing.
+-- R19 and R20: what acceptance says, and what refusal says at depth 5. Assumes nothing.
 use Prim.Native.Nat.{ℕ, _+_, _*_, _≤_}
 use native.Mathlib.Omega.{arith}
 use native.Mathlib.Nat.{mul-le-mul-right}
@@ -11,14 +11,15 @@ use Rattle.series.proofs.Sums.{same, other}
 use Rattle.series.proofs.Range.{sine-divides}
 use Rattle.series.proofs.Truth.{den-pos}
 use Rattle.series.proofs.True.{Lo-true, Hi-true}
-use Rattle.series.proofs.Deeper.{Lo-rises, Hi-falls}
 use Rattle.series.proofs.Width.{width-5}
 use Rattle.series.proofs.Next.{drop-last, add-last, S9-parts, S10-parts}
-use Rattle.ends.specs.declared.Orbit.{Orbit}
-use Rattle.ends.specs.Ends.{lowerEnd, upperEnd}
+use Rattle.orbit.specs.Cell.{Orbit, orbitAt, gridCell}
+use Rattle.orbit.specs.Given.{Given, grid, cellOf, exactOf}
+use Rattle.ends.specs.Ends.{belowAt, aboveAt, lowerEnd, upperEnd}
 use Rattle.ends.specs.Exact.{LowerExact, UpperExact, LowerSpare, UpperSpare}
-use Rattle.ends.proofs.Both.{accept, refuse, raise}
-use Rattle.ends.proofs.Tests.{lower-test, upper-test, lower-exact, upper-exact, lower-spares, upper-spares}
+use Rattle.ends.proofs.Accepts.{accept, refuse}
+use Rattle.ends.proofs.Corners.{below-corners, above-corners}
+use Rattle.ends.proofs.Tests.{below-test, above-test, lower-exact, upper-exact, lower-spares, upper-spares}
 
 -- ---- the sine bounds by naturals
 
@@ -50,47 +51,51 @@ module _ (X : ℕ) (within : X ≤ T-units) where
       let h = add-last sine X 9 (plus (Lo X depths)) (minus (Lo X depths)) (low-truth depths (omega arith)) in
       omega (arith, mul-le-mul-right den10 narrow)
 
--- ---- both ends
+-- ---- of one M and one A
 
-module _ (o : Orbit) (X : ℕ) where
+module _ (o : Orbit) (X : ℕ) (within : X ≤ T-units) where
   -- R19: of a lower end, at any depth
-  pub lower-true : X ≤ T-units → (d : ℕ) → d ≤ depths → T (lowerEnd o d X) → LowerExact o X
-  lower-true w d j t =
+  pub below-true : (d : ℕ) → d ≤ depths → T (belowAt o X (Lo X d)) → LowerExact o X
+  below-true d j t =
       lower-exact o X .1
       (accept (one * X) (one * o .m) (o .a) den9 (other sine X 9) (same sine X 9) (plus (Lo X d)) (minus (Lo X d))
-      (low-truth X w d j) (lower-test o X d .0 t))
+      (low-truth X within d j) (below-test o X (Lo X d) .0 t))
 
   -- R19: of an upper end, at any depth
-  pub upper-true : X ≤ T-units → (d : ℕ) → d ≤ depths → T (upperEnd o d X) → UpperExact o X
-  upper-true w d j t =
-      let h = high-truth X w d j in
+  pub above-true : (d : ℕ) → d ≤ depths → T (aboveAt o X (Hi X d)) → UpperExact o X
+  above-true d j t =
+      let h = high-truth X within d j in
       upper-exact o X .1
       (accept (one * o .m) (one * X) (o .a) den10 (other sine X 10) (same sine X 10) (minus (Hi X d)) (plus (Hi X d))
-      (omega arith) (upper-test o X d .0 t))
+      (omega arith) (above-test o X (Hi X d) .0 t))
 
   -- R20: where 32 e units are to spare depth 5 accepts
-  pub lower-spare : X ≤ T-units → LowerSpare o X → T (lowerEnd o depths X)
-  lower-spare w s =
-      lower-test o X depths .1
+  below-spare : LowerSpare o X → T (belowAt o X (Lo X depths))
+  below-spare s =
+      below-test o X (Lo X depths) .1
       (refuse (one * X) (one * o .m) (o .a) 32 den9 (other sine X 9) (same sine X 9) (plus (Lo X depths)) (minus (Lo X depths))
-      (den-pos sine sine-divides 9) (low-near X w) (lower-spares o X s))
+      (den-pos sine sine-divides 9) (low-near X within) (lower-spares o X s))
 
-  pub upper-spare : X ≤ T-units → UpperSpare o X → T (upperEnd o depths X)
-  upper-spare w s =
-      upper-test o X depths .1
+  above-spare : UpperSpare o X → T (aboveAt o X (Hi X depths))
+  above-spare s =
+      above-test o X (Hi X depths) .1
       (refuse (one * o .m) (one * X) (o .a) 32 den10 (other sine X 10) (same sine X 10) (minus (Hi X depths)) (plus (Hi X depths))
-      (den-pos sine sine-divides 10) (high-near X w) (upper-spares o X s))
+      (den-pos sine sine-divides 10) (high-near X within) (upper-spares o X s))
 
-  -- R22: accepted at a depth is accepted at every greater one
-  pub lower-deeper : {d e : ℕ} → d ≤ e → T (lowerEnd o d X) → T (lowerEnd o e X)
-  lower-deeper {d} {e} h t =
-      lower-test o X e .1
-      (raise (one * X) (one * o .m) (o .a) (plus (Lo X d)) (minus (Lo X d)) (plus (Lo X e)) (minus (Lo X e))
-      (le-parts (own (Lo X d)) (own (Lo X e)) .0 (Lo-rises X d e h)) (lower-test o X d .0 t))
+-- ---- of what is given
 
-  pub upper-deeper : {d e : ℕ} → d ≤ e → T (upperEnd o d X) → T (upperEnd o e X)
-  upper-deeper {d} {e} h t =
-      let b = le-parts (own (Hi X e)) (own (Hi X d)) .0 (Hi-falls X d e h) in
-      upper-test o X e .1
-      (raise (one * o .m) (one * X) (o .a) (minus (Hi X d)) (plus (Hi X d)) (minus (Hi X e)) (plus (Hi X e))
-      (omega arith) (upper-test o X d .0 t))
+-- R19
+pub lower-true : (g : Given) (X : ℕ) → X ≤ T-units → (d : ℕ) → d ≤ depths → T (lowerEnd (cellOf g) d X) → LowerExact (exactOf g) X
+lower-true (grid m a) X w d j t = below-true (orbitAt m a) X w d j (below-corners (gridCell m a) X (Lo X d) .0 t .0)
+
+pub upper-true : (g : Given) (X : ℕ) → X ≤ T-units → (d : ℕ) → d ≤ depths → T (upperEnd (cellOf g) d X) → UpperExact (exactOf g) X
+upper-true (grid m a) X w d j t = above-true (orbitAt m a) X w d j (above-corners (gridCell m a) X (Hi X d) .0 t .0)
+
+-- R20, on the grid
+pub lower-spare : (m a X : ℕ) → X ≤ T-units → LowerSpare (orbitAt m a) X → T (lowerEnd (gridCell m a) depths X)
+lower-spare m a X w s =
+    let t = below-spare (orbitAt m a) X w s in below-corners (gridCell m a) X (Lo X depths) .1 (t, t)
+
+pub upper-spare : (m a X : ℕ) → X ≤ T-units → UpperSpare (orbitAt m a) X → T (upperEnd (gridCell m a) depths X)
+upper-spare m a X w s =
+    let t = above-spare (orbitAt m a) X w s in above-corners (gridCell m a) X (Hi X depths) .1 (t, t)

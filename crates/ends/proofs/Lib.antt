@@ -1,8 +1,8 @@
-pub mod Apart
-pub mod Both
-pub mod Coded
-pub mod Entry
-pub mod Enums
-pub mod Exact
-pub mod Limits
+pub mod Accepts
 pub mod Tests
+pub mod Corners
+pub mod Exact
+pub mod Apart
+pub mod Known
+pub mod Answered
+pub mod CodeTest

@@ -3,35 +3,33 @@ use mathlib.Core.Logic.{_↔_}
 use Prim.Native.Nat.{ℕ, _+_, _*_}
 use native.Mathlib.Omega.{arith}
 use lib.Dec.{T}
-use lib.IntN.{pos, _-ℤ_, _*ℤ_}
+use lib.IntN.{ℤ, pos, _-ℤ_, _*ℤ_}
 use Rattle.whole.proofs.Parts.{Is, plus, minus, own, is-pos, is-add, is-minus, is-mul}
 use Rattle.whole.proofs.Order.{le-parts, test-parts}
 use Rattle.grid.specs.Grid.{one}
-use Rattle.series.specs.Sine.{sine, Lo, Hi, den9, den10}
+use Rattle.series.specs.Sine.{sine, den9, den10}
 use Rattle.series.proofs.Sums.{same, other}
 use Rattle.series.proofs.Next.{S9-parts, S10-parts}
-use Rattle.ends.specs.declared.Orbit.{Orbit}
-use Rattle.ends.specs.Ends.{lowerEnd, upperEnd}
+use Rattle.orbit.specs.Cell.{Orbit}
+use Rattle.ends.specs.Ends.{belowAt, aboveAt}
 use Rattle.ends.specs.Exact.{LowerExact, UpperExact, LowerSpare, UpperSpare}
-use Rattle.ends.proofs.Both.{Accepts, Spares}
+use Rattle.ends.proofs.Accepts.{Accepts, Spares}
 
 -- k (x - m)
 scaled : (k x m : ℕ) → Is (pos k *ℤ (pos x -ℤ pos m)) (k * (x + 0)) (k * (0 + m))
 scaled k x m = is-mul k (is-minus (is-pos x) (is-pos m))
 
 module _ (o : Orbit) (X : ℕ) where
-  pub lower-test : (d : ℕ)
-      → T (lowerEnd o d X) ↔ Accepts (one * X) (one * o .m) (o .a) (plus (Lo X d)) (minus (Lo X d))
-  unfolding lowerEnd
-  lower-test d =
-      let (there, back) = test-parts (scaled one X (o .m)) (is-mul (o .a) (own (Lo X d))) in
+  pub below-test : (b : ℤ) → T (belowAt o X b) ↔ Accepts (one * X) (one * o .m) (o .a) (plus b) (minus b)
+  unfolding belowAt
+  below-test b =
+      let (there, back) = test-parts (scaled one X (o .m)) (is-mul (o .a) (own b)) in
       (λ t. let h = there t in omega arith, λ h. back (omega arith))
 
-  pub upper-test : (d : ℕ)
-      → T (upperEnd o d X) ↔ Accepts (one * o .m) (one * X) (o .a) (minus (Hi X d)) (plus (Hi X d))
-  unfolding upperEnd
-  upper-test d =
-      let (there, back) = test-parts (is-mul (o .a) (own (Hi X d))) (scaled one X (o .m)) in
+  pub above-test : (b : ℤ) → T (aboveAt o X b) ↔ Accepts (one * o .m) (one * X) (o .a) (minus b) (plus b)
+  unfolding aboveAt
+  above-test b =
+      let (there, back) = test-parts (is-mul (o .a) (own b)) (scaled one X (o .m)) in
       (λ t. let h = there t in omega arith, λ h. back (omega arith))
 
   pub lower-exact : LowerExact o X ↔ Spares 0 (one * X) (one * o .m) (o .a) den9 (other sine X 9) (same sine X 9)

@@ -6,7 +6,7 @@ use lib.IntN.{pos, _+ℤ_, _-ℤ_, _*ℤ_}
 use lib.Signed.{_≤ℤ_}
 use Rattle.grid.specs.Grid.{one}
 use Rattle.series.specs.Sine.{S9, S10, den9, den10}
-use Rattle.ends.specs.declared.Orbit.{Orbit}
+use Rattle.orbit.specs.Cell.{Orbit}
 
 -- R19: X - M is at most e S_9(X), as an accepted lower end says
 abbrev pub LowerExact : Orbit → ℕ → Type 0

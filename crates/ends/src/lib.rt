@@ -1,156 +1,113 @@
 // The two end tests: whether an angle is accepted as an end below or above the root.
 ghost use mathlib.Core.Path.{_≡_};
-ghost use Rattle.ends.specs.Ends.{lowerEnd, upperEnd};
-ghost use Rattle.ends.specs.Entry.{orbitOf, questionOf, endRule, lowerRule, upperRule, flagged};
-ghost use Rattle.ends.specs.Fair.{Fair, Stage, Hopeless, endAt};
-ghost use Rattle.grid.specs.Grid.{one, H-units, T-units};
+ghost use Prim.Native.Nat.{_≤_, _*_};
+ghost use mathlib.Core.Bool.{cond};
 ghost use Rattle.series.specs.Walk.{raise};
-ghost use Prim.Native.Nat.{_+_, _*_, _≤_};
+ghost use Rattle.orbit.specs.Given.{grid};
+ghost use Rattle.ends.specs.Ends.{endAt, lowerEnd, upperEnd};
+ghost use Rattle.ends.specs.Entry.{endRule, lowerRule, upperRule, flagged};
+ghost use Rattle.ends.specs.Sides.{Asked, SidesIn, Fitting, sidesOf, fitting, boundTest};
 use grid::Angle;
-use grid::AngleOr;
-use grid::Depth;
-use grid::DepthOr;
-use grid::Eccentricity;
-use grid::EccentricityOr;
 use grid::codes;
+use orbit::Cell;
+use orbit::Problem;
+use orbit::Span;
 use series::Walk;
 
-// One problem: the mean anomaly m and the eccentricity a / 2^28, both on the grid.
-pub struct Orbit {
-    pub m: u64,
-    pub a: u64,
+// 2^28 X and 2^28 M on the sides of a test, which no depth changes.
+struct Sides {
+    left: u64,
+    right: u64,
 }
 
-pub enum OrbitOr {
-    Made(Orbit),
-    Refused(u32),
-}
-
-impl Orbit {
-    pub fn new(m: u32, a: u32) -> OrbitOr
-        ensures { λ r. ⌜ r ≡ orbitOf m a ⌝ }
-    {
-        if m <= Angle::H {
-            match Eccentricity::new(a) {
-                EccentricityOr::Refused(code) => OrbitOr::Refused(code),
-                EccentricityOr::Made(e) => OrbitOr::Made(Orbit {
-                    m: m as u64,
-                    a: e.units,
-                }),
-            }
-        } else {
-            OrbitOr::Refused(codes::BAD_M)
+fn sides_of(cell: Cell, x: u64, upper: bool) -> Sides
+    requires { ⌜ SidesIn cell x ⌝ }
+    ensures { λ r. ⌜ r ≡ sidesOf upper cell x ⌝ }
+{
+    let m = cell.m;
+    if upper {
+        Sides {
+            left: grid::ONE * m.up,
+            right: grid::ONE * x,
+        }
+    } else {
+        Sides {
+            left: grid::ONE * x,
+            right: grid::ONE * m.down,
         }
     }
 }
 
-const ONE: u64 = 268_435_456;
-
-const RAISE: u64 = 17_179_869_184;
-
-// 2^28 X against 2^28 M + A bound, both raised by A 2^34, so that no number is below 0.
-fn level(o: Orbit, x: u64) -> u64
-    requires { ⌜ (o .a ≤ one) × (x ≤ T-units) ⌝ }
-    ensures { λ r. ⌜ r ≡ one * x + o .a * raise ⌝ }
+// Whether left - right is at most more - less times every A of the span, with no number below 0.
+fn fits(s: Sides, a: Span, more: u64, less: u64) -> bool
+    requires { ⌜ Fitting s a more less ⌝ }
+    ensures { λ r. ⌜ r ≡ fitting s a more less ⌝ }
 {
-    ONE * x + o.a * RAISE
-}
-
-fn against(o: Orbit, raised: u64) -> u64
-    requires { ⌜ (o .a ≤ one) × ((o .m ≤ H-units) × (raised ≤ 2 * raise)) ⌝ }
-    ensures { λ r. ⌜ r ≡ o .a * raised + one * o .m ⌝ }
-{
-    o.a * raised + ONE * o.m
-}
-
-// The end test at the depth that the walk has come to, for an end above the root or below it.
-fn accepts(o: Orbit, s: Walk, above: bool) -> bool
-    requires { ⌜ Stage o s ⌝ }
-    ensures { λ r. ⌜ r ≡ endAt above o (s .pairs) (s .x) ⌝ }
-{
-    if above {
-        against(o, s.hi) <= level(o, s.x)
+    if more < less {
+        s.left + a.up * (less - more) <= s.right
     } else {
-        level(o, s.x) <= against(o, s.lo)
+        s.left <= s.right + a.down * (more - less)
     }
 }
 
-// Whether the other bound at this depth lies on the wrong side: then no greater depth accepts either.
-fn hopeless(o: Orbit, s: Walk, above: bool) -> bool
-    requires { ⌜ Stage o s ⌝ }
-    ensures { λ r. ⌜ Hopeless r above o s ⌝ }
+// The end test by a bound of the sine, raised.
+fn by_bound(s: Sides, a: Span, bound: u64, upper: bool) -> bool
+    requires { ⌜ Fitting s a bound bound ⌝ }
+    ensures { λ r. ⌜ r ≡ boundTest upper s a bound ⌝ }
 {
-    if above {
-        level(o, s.x) < against(o, s.lo)
+    if upper {
+        fits(s, a, series::RAISE, bound)
     } else {
-        against(o, s.hi) < level(o, s.x)
+        fits(s, a, bound, series::RAISE)
     }
 }
 
-// The end test at a depth, settled at the first depth that settles it.
-fn settle(o: Orbit, x: Angle, d: Depth, above: bool) -> bool
-    requires { ⌜ Fair o x d ⌝ }
-    ensures { λ r. ⌜ r ≡ endAt above o (d .pairs) (x .units) ⌝ }
+// The bound that a test of an upper end goes by, or that of a lower end.
+fn bound_of(w: Walk, upper: bool) -> u64
+    ensures { λ r. ⌜ r ≡ cond upper (w .hi) (w .lo) ⌝ }
 {
-    let depth = d.pairs as u64;
-    let mut s = series::begin(x.units);
+    if upper { w.hi } else { w.lo }
+}
+
+// The end test at a depth, settled at the first depth that settles it: one that accepts, or one whose other bound does not,
+// as no depth has a better bound than that.
+fn settle(p: Problem, x: Angle, upper: bool) -> bool
+    requires { ⌜ Asked p x ⌝ }
+    ensures { λ r. ⌜ r ≡ endAt upper (p .cell) (p .depth .pairs) (x .units) ⌝ }
+{
+    let depth = p.depth.pairs as u64;
+    let cell = p.cell;
+    let a = cell.a;
+    let s = sides_of(cell, x.units, upper);
+    let mut w = series::begin(x.units);
     loop {
-        s = series::further(s);
-        if accepts(o, s, above) {
+        w = series::further(w);
+        if by_bound(s, a, bound_of(w, upper), upper) {
             return true;
         }
-        if s.pairs == depth {
+        if w.pairs == depth {
             return false;
         }
-        if hopeless(o, s, above) {
+        if !by_bound(s, a, bound_of(w, !upper), upper) {
             return false;
         }
     }
 }
 
 // Whether x is an accepted lower end.
-pub fn lower(o: Orbit, x: Angle, d: Depth) -> bool
-    requires { ⌜ Fair o x d ⌝ }
-    ensures { λ r. ⌜ r ≡ lowerEnd o (d .pairs) (x .units) ⌝ }
+pub fn lower(p: Problem, x: Angle) -> bool
+    requires { ⌜ Asked p x ⌝ }
+    ensures { λ r. ⌜ r ≡ lowerEnd (p .cell) (p .depth .pairs) (x .units) ⌝ }
 {
-    settle(o, x, d, false)
+    settle(p, x, false)
 }
 
 // Whether x is an accepted upper end.
-pub fn upper(o: Orbit, x: Angle, d: Depth) -> bool
-    requires { ⌜ Fair o x d ⌝ }
-    ensures { λ r. ⌜ r ≡ upperEnd o (d .pairs) (x .units) ⌝ }
+pub fn upper(p: Problem, x: Angle) -> bool
+    requires { ⌜ Asked p x ⌝ }
+    ensures { λ r. ⌜ r ≡ upperEnd (p .cell) (p .depth .pairs) (x .units) ⌝ }
 {
-    settle(o, x, d, true)
-}
-
-// An end to be tested, with all its numbers checked.
-pub struct Question {
-    pub o: Orbit,
-    pub x: Angle,
-    pub d: Depth,
-}
-
-pub enum QuestionOr {
-    Made(Question),
-    Refused(u32),
-}
-
-impl Question {
-    pub fn new(x: u32, m: u32, a: u32, depth: u32) -> QuestionOr
-        ensures { λ r. ⌜ r ≡ questionOf x m a depth ⌝ }
-    {
-        match Orbit::new(m, a) {
-            OrbitOr::Refused(code) => QuestionOr::Refused(code),
-            OrbitOr::Made(o) => match Depth::new(depth) {
-                DepthOr::Refused(code) => QuestionOr::Refused(code),
-                DepthOr::Made(d) => match Angle::new(x) {
-                    AngleOr::Refused(code) => QuestionOr::Refused(code),
-                    AngleOr::Made(angle) => QuestionOr::Made(Question { o, x: angle, d }),
-                },
-            },
-        }
-    }
+    settle(p, x, true)
 }
 
 // What a public end test answers: accepted is 1 or 0.
@@ -176,26 +133,31 @@ fn flag(accepted: bool) -> End
     }
 }
 
-// The end test of plain numbers, for an end above the root or below it.
-fn end_test(x: u32, m: u32, a: u32, depth: u32, above: bool) -> End
-    ensures { λ r. ⌜ r ≡ endRule (endAt above) x m a depth ⌝ }
+// The end test of plain numbers, of an upper end or of a lower one.
+fn end_test(x: u32, m: u32, a: u32, depth: u32, upper: bool) -> End
+    ensures { λ r. ⌜ r ≡ endRule upper x (grid m a) depth ⌝ }
 {
-    match Question::new(x, m, a, depth) {
-        QuestionOr::Refused(code) => End { code, accepted: 0 },
-        QuestionOr::Made(q) => flag(settle(q.o, q.x, q.d, above)),
+    let posed = Problem::new(m, a, depth);
+    let made = Angle::new(x);
+    let code = codes::earlier(posed.code, made.code);
+    if code != codes::DONE {
+        return End { code, accepted: 0 };
     }
+    let problem = posed.problem;
+    let angle = made.angle;
+    flag(settle(problem, angle, upper))
 }
 
 // Whether x is an accepted lower end, or the code of what is out of limits: 1, 2, 3, then 10.
 pub fn lower_end(x: u32, m: u32, a: u32, depth: u32) -> End
-    ensures { λ r. ⌜ r ≡ lowerRule x m a depth ⌝ }
+    ensures { λ r. ⌜ r ≡ lowerRule x (grid m a) depth ⌝ }
 {
     end_test(x, m, a, depth, false)
 }
 
 // Whether x is an accepted upper end, or the code of what is out of limits: 1, 2, 3, then 10.
 pub fn upper_end(x: u32, m: u32, a: u32, depth: u32) -> End
-    ensures { λ r. ⌜ r ≡ upperRule x m a depth ⌝ }
+    ensures { λ r. ⌜ r ≡ upperRule x (grid m a) depth ⌝ }
 {
     end_test(x, m, a, depth, true)
 }

@@ -42,7 +42,7 @@ pub struct Walk {
     pub hi: u64,
 }
 
-const RAISE: u64 = 17_179_869_184;
+pub const RAISE: u64 = 17_179_869_184;
 
 const ROUND: u64 = 268_435_455;
 

@@ -80,3 +80,18 @@ pub ≤ℤ-trans : {x y z : ℤ} → x ≤ℤ y → y ≤ℤ z → x ≤ℤ z
     let f = le-parts (own x) (own y) .0 h in
     let g = le-parts (own y) (own z) .0 k in
     le-parts (own x) (own z) .1 (omega arith)
+
+-- a test against the lesser is one against both, and likewise of the greater
+pub le-lesser : (x y z : ℤ) → T (leZ x (lesser y z)) ↔ T (leZ x y) × T (leZ x z)
+le-lesser x y z = (
+  λ t.
+      let h : x ≤ℤ lesser y z = leZ-yes t in (≤ℤ-trans h (lesser-le-left y z) .le, ≤ℤ-trans h (lesser-le-right y z) .le),
+  λ p. of-lesser (λ (g : ℤ). T (leZ x g)) y z (p .0) (p .1),
+)
+
+pub greater-le : (x y z : ℤ) → T (leZ (greater x y) z) ↔ T (leZ x z) × T (leZ y z)
+greater-le x y z = (
+  λ t.
+      let h : greater x y ≤ℤ z = leZ-yes t in (≤ℤ-trans (le-greater-left x y) h .le, ≤ℤ-trans (le-greater-right x y) h .le),
+  λ p. of-greater (λ (g : ℤ). T (leZ g z)) x y (p .0) (p .1),
+)

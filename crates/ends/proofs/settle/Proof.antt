@@ -1,107 +1,134 @@
 -- `ends::settle` meets its contract: the walk goes on until a depth accepts, rules every depth out, or is the one asked for.
 -- Assumes nothing.
-use mathlib.Core.Path.{_≡_, sym, ap, _∙_}
-use mathlib.Core.Bool.{Bool}
+use mathlib.Core.Path.{_≡_, sym, ap, ap₂, _∙_}
+use mathlib.Core.Bool.{Bool, not, cond}
 use Prim.Native.Nat.{ℕ, suc, _-_, _≤_, _<_}
 use native.Mathlib.Omega.{arith}
 use borrow.Author.Needs.{needs}
-use Rattle.grid.specs.Grid.{T-units}
+use borrow.Author.Tests.{not-true}
+use Rattle.whole.proofs.Bools.{passed, passes}
+use Rattle.grid.specs.Grid.{depths}
 use Rattle.series.specs.Walk.{walk}
 use Rattle.series.specs.declared.Walk.{Walk}
 use Rattle.series.proofs.Depths.{unfinished, onward, own-pairs, walked-own}
-use Rattle.ends.specs.Fair.{Stage, endAt}
-use Rattle.ends.proofs.Coded.{staged, deeper}
+use Rattle.ends.specs.Ends.{endAt}
+use Rattle.ends.specs.Sides.{Fitting, boundTest}
+use Rattle.ends.specs.declared.Sides.{Sides}
+use Rattle.ends.proofs.Corners.{deeper}
+use Rattle.ends.proofs.CodeTest.{bound-fits, own-test, other-test}
 use Rattle.ends.proofs.settle.Statement.{statement}
 use Rattle.ends.proofs.settle.Tie as tie
 
 abbrev Inv-loop : tie.InvT-loop
-Inv-loop o above depth s₀ s = (s ≡ walk (s₀ .x) (s .pairs)) × (s .pairs < depth)
+Inv-loop upper depth a s w₀ w = (w ≡ walk (w₀ .x) (w .pairs)) × (w .pairs < depth)
 
 abbrev μ-loop : tie.MeasureT-loop
-μ-loop o above depth s₀ s = depth - s .pairs
+μ-loop upper depth a s w₀ w = depth - w .pairs
 
 -- the walk begins at the angle asked for
-x-is : (c : tie.After-begin Inv-loop μ-loop) → c .begin .result .x ≡ c .before .before .args .x .units
+x-is : (c : tie.After-begin Inv-loop μ-loop) → c .begin .result .x ≡ c .before .before .before .before .before .args .x .units
 x-is c = ap (λ (t : Walk). t .x) (c .begin .ensures)
 
-x-within : (c : tie.After-begin Inv-loop μ-loop) → c .begin .result .x ≤ T-units
-x-within c = let e = x-is c in omega (arith, c .before .before .pre .angle)
+-- after a turn's step it has come one pair further
+stepped : (c : tie.After-further Inv-loop μ-loop)
+    → c .further .result ≡ walk (c .before .before .begin .result .x) (suc (c .before .loop .w .pairs))
+stepped c = onward _ _ _ (c .before .loop .inv .0) _ (c .further .ensures)
 
--- the walk after a turn's step, which has come to a depth
-next : (c : tie.After-further Inv-loop μ-loop) → c .further .result ≡ walk (c .before .before .begin .result .x) (suc (c .before .loop .s .pairs))
-next c = onward _ _ _ (c .before .loop .inv .0) _ (c .further .ensures)
+next : (c : tie.After-further Inv-loop μ-loop)
+    → c .further .result ≡ walk (c .before .before .before .before .before .before .before .args .x .units) (suc (c .before .loop .w .pairs))
+next c = stepped c ∙ ap (λ (x : ℕ). walk x (suc (c .before .loop .w .pairs))) (x-is (c .before .before))
 
-stage : (c : tie.After-further Inv-loop μ-loop) → Stage (c .before .before .before .before .args .o) (c .further .result)
-stage c =
-    let p = c .before .before .before .before .pre in
-    staged _ _ _ _ (p .m) (p .a) (next c) (x-within (c .before .before)) (omega (arith, p .few))
-
--- its depth is not beyond the one asked for, and its angle is the one asked for
-pairs-is : (c : tie.After-further Inv-loop μ-loop) → c .further .result .pairs ≡ suc (c .before .loop .s .pairs)
+pairs-is : (c : tie.After-further Inv-loop μ-loop) → c .further .result .pairs ≡ suc (c .before .loop .w .pairs)
 pairs-is c = ap (λ (t : Walk). t .pairs) (next c)
 
-angle-is : (c : tie.After-further Inv-loop μ-loop) → c .further .result .x ≡ c .before .before .before .before .args .x .units
-angle-is c = ap (λ (t : Walk). t .x) (next c) ∙ x-is (c .before .before)
+few : (c : tie.After-further Inv-loop μ-loop) → suc (c .before .loop .w .pairs) ≤ depths
+few c = omega (arith, c .before .loop .inv .1, c .before .before .before .before .before .before .before .pre .problem .depth .few)
 
--- the test at the walk's angle is the test at the angle asked for
-at-angle : (c : tie.After-further Inv-loop μ-loop) (above : Bool) (d : ℕ) →
-    endAt above (c .before .before .before .before .args .o) d (c .further .result .x)
-    ≡ endAt above (c .before .before .before .before .args .o) d (c .before .before .before .before .args .x .units)
-at-angle c above d = ap (endAt above (c .before .before .before .before .args .o) d) (angle-is c)
+-- either test of the loop may be made
+fitting : (c : tie.After-further Inv-loop μ-loop) (upper : Bool) (b : ℕ) → b ≡ cond upper (c .further .result .hi) (c .further .result .lo)
+    → Fitting (c .before .before .before .sides-of .result) (c .before .before .before .before .before .before .before .args .p .cell .a) b b
+fitting c upper b e =
+    let s = c .before .before .before .before .before .before .before in
+    rw e
+    (bound-fits (s .args .p .cell) (s .pre .problem .cell) _ (s .pre .angle .top) (c .further .result) _ (next c) (few c) upper (s .args .upper) _
+    (c .before .before .before .sides-of .ensures))
+
+-- what the first test says
+own : (c : tie.After-by-bound Inv-loop μ-loop)
+    → let f = c .before .before in
+    let g = f .before .before .before .before .before .before .before .args in
+    c .by-bound .result ≡ endAt (g .upper) (g .p .cell) (f .further .result .pairs) (g .x .units)
+own c =
+    let f = c .before .before in
+    let s = f .before .before .before .before .before .before .before in
+    c .by-bound .ensures
+    ∙ ap₂ (λ (t : Sides) (b : ℕ). boundTest (s .args .upper) t (s .args .p .cell .a) b) (f .before .before .before .sides-of .ensures) (c .before .bound-of .ensures)
+    ∙ own-test (s .args .p .cell) (s .pre .problem .cell) _ (s .pre .angle .top) (f .further .result) _ (next f) (few f) (s .args .upper)
+    ∙ ap (λ (n : ℕ). endAt (s .args .upper) (s .args .p .cell) n (s .args .x .units)) (sym (pairs-is f))
 
 cast-depth : tie.Need-cast-depth Inv-loop μ-loop
 cast-depth c = search needs
 
+sides-of-requires : tie.Need-sides-of-requires Inv-loop μ-loop
+sides-of-requires c κs = let p = c .before .before .before .pre in record { cell = p .problem .cell; angle = p .angle .top }
+
 begin-requires : tie.Need-begin-requires Inv-loop μ-loop
-begin-requires c κs = c .before .pre .angle
+begin-requires c κs = c .before .before .before .before .pre .angle .top
 
 loop-holds : tie.Need-loop-holds Inv-loop μ-loop
 loop-holds c =
     let f = ap (λ (t : Walk). t .pairs) (c .begin .ensures) in
-    (walked-own _ _ _ (c .begin .ensures), omega (arith, c .before .before .pre .some))
+    (walked-own _ _ _ (c .begin .ensures), omega (arith, c .before .before .before .before .before .pre .problem .depth .some))
 
 further-requires : tie.Need-further-requires Inv-loop μ-loop
 further-requires c κs =
-    unfinished _ _ _ (c .loop .inv .0) (x-within (c .before)) (omega (arith, c .before .before .before .pre .few))
+    let p = c .before .before .before .before .before .before .pre in
+    let e = x-is (c .before) in
+    unfinished _ _ _ (c .loop .inv .0) (omega (arith, p .angle .top)) (omega (arith, p .problem .depth .few))
 
-accepts-requires : tie.Need-accepts-requires Inv-loop μ-loop
-accepts-requires c κs = stage c
+bound-of-requires : tie.Need-bound-of-requires Inv-loop μ-loop
+bound-of-requires c κs = search needs
+
+by-bound-requires : tie.Need-by-bound-requires Inv-loop μ-loop
+by-bound-requires c κs = fitting (c .before) (c .before .before .before .before .before .before .before .before .args .upper) _ (c .bound-of .ensures)
 
 returns : tie.Need-returns Inv-loop μ-loop
 returns c =
-    let f = c .before .before in
-    let g = f .before .before .before .before .args in
+    let f = c .before .before .before in
+    let g = f .before .before .before .before .before .before .before .args in
     let k = pairs-is f in
-    deeper (g .above) (g .o) (f .further .result .x) (omega arith) (sym (c .if1 .taken) ∙ c .before .accepts .ensures)
-    ∙ at-angle f (g .above) (g .d .pairs)
+    passes _ (deeper (g .upper) (g .p .cell) (g .x .units) (omega (arith, f .before .loop .inv .1)) (passed _ (sym (c .if1 .taken) ∙ own (c .before))))
 
 returns-2 : tie.Need-returns-2 Inv-loop μ-loop
 returns-2 c =
     let e = c .before .before in
-    let f = e .before .before in
-    let g = f .before .before .before .before .args in
-    sym (e .if1 .left) ∙ e .before .accepts .ensures
-    ∙ ap (λ (n : ℕ). endAt (g .above) (g .o) n (f .further .result .x)) (c .if2 .taken) ∙ at-angle f (g .above) (g .d .pairs)
+    let g = e .before .before .before .before .before .before .before .before .before .before .args in
+    sym (e .if1 .left) ∙ own (e .before) ∙ ap (λ (n : ℕ). endAt (g .upper) (g .p .cell) n (g .x .units)) (c .if2 .taken)
 
-hopeless-requires : tie.Need-hopeless-requires Inv-loop μ-loop
-hopeless-requires c κs = stage (c .before .before .before .before)
+bound-of-requires-2 : tie.Need-bound-of-requires-2 Inv-loop μ-loop
+bound-of-requires-2 c κs = search needs
+
+by-bound-requires-2 : tie.Need-by-bound-requires-2 Inv-loop μ-loop
+by-bound-requires-2 c κs = let f = c .before .before .before .before .before .before in fitting f (not (f .before .before .before .before .before .before .before .args .upper)) _ (c .bound-of2 .ensures)
 
 returns-3 : tie.Need-returns-3 Inv-loop μ-loop
 returns-3 c =
-    let f = c .before .before .before .before .before .before in
-    let p = f .before .before .before .before .pre in
-    let g = f .before .before .before .before .args in
-    let k = pairs-is f in
-    c .before .hopeless .ensures .never (c .if3 .taken) (g .d .pairs) (omega arith) (p .few) ∙ at-angle f (g .above) (g .d .pairs)
+    let t = c .before in
+    let f = t .before .before .before .before .before .before .before in
+    let s = f .before .before .before .before .before .before .before in
+    let e =
+    ap₂ (λ (t : Sides) (b : ℕ). boundTest (s .args .upper) t (s .args .p .cell .a) b) (f .before .before .before .sides-of .ensures) (t .before .bound-of2 .ensures) in
+    other-test (s .args .p .cell) (s .pre .problem .cell) _ (s .pre .angle .top) (f .further .result) _ (next f) (few f) (s .args .upper)
+    (sym e ∙ sym (t .by-bound2 .ensures) ∙ not-true _ (c .if3 .taken)) (s .args .p .depth .pairs) (s .pre .problem .depth .few)
 
 loop-less : tie.Need-loop-less Inv-loop μ-loop
-loop-less c = let k = pairs-is (c .before .before .before .before .before .before) in omega arith
+loop-less c = let k = pairs-is (c .before .before .before .before .before .before .before .before) in omega arith
 
 loop-again : tie.Need-loop-again Inv-loop μ-loop
 loop-again c =
-    let f = c .before .before .before .before .before .before in
+    let f = c .before .before .before .before .before .before .before .before in
     let k = pairs-is f in
-    (own-pairs _ _ _ (next f), omega (arith, c .before .before .if2 .left))
+    (own-pairs _ _ _ (stepped f), omega (arith, f .before .loop .inv .1, c .before .before .before .if2 .left))
 
 pub settle-spec : {M : Type 1} → statement M
 settle-spec =
@@ -110,13 +137,16 @@ settle-spec =
     Inv-loop
     μ-loop
     cast-depth
+    sides-of-requires
     begin-requires
     loop-holds
     further-requires
-    accepts-requires
+    bound-of-requires
+    by-bound-requires
     returns
     returns-2
-    hopeless-requires
+    bound-of-requires-2
+    by-bound-requires-2
     returns-3
     loop-less
     loop-again)

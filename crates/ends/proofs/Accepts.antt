@@ -25,8 +25,8 @@ module _ (l r a : ℕ) where
   refuse w D f g p q some near h = le-of-mul-le-mul-right {k = D} (omega (arith, mul-le-mul-left a near)) some
 
   -- a better bound accepts no less
-  pub raise : (p q p' q' : ℕ) → p + q' ≤ p' + q → Accepts l r a p q → Accepts l r a p' q'
-  raise p q p' q' better h = omega (arith, mul-le-mul-left a better)
+  pub better : (p q p' q' : ℕ) → p + q' ≤ p' + q → Accepts l r a p q → Accepts l r a p' q'
+  better p q p' q' more h = omega (arith, mul-le-mul-left a more)
 
   -- at a = 0 no bound counts
   pub no-sine : a ≡ 0 → (p q : ℕ) → Accepts l r a p q ↔ l ≤ r
