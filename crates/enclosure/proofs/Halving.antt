@@ -10,7 +10,7 @@ use lib.Pow.{pow-pos}
 use borrow.Author.Tests.{le-ltb}
 use Rattle.whole.proofs.Parts.{by-test}
 use Rattle.enclosure.specs.declared.Bracket.{Bracket}
-use Rattle.enclosure.specs.Halving.{whole, middle, replaceP, replaceQ, halve, turns, lastBracket}
+use Rattle.enclosure.specs.Halving.{widest, middle, replaceP, replaceQ, halve, turns, lastBracket}
 
 -- how far apart p and q are
 abbrev pub width : Bracket → ℕ
@@ -68,7 +68,7 @@ ended acc (suc n) b h = ended acc n (halve acc b) (halve-width acc b n h)
 
 -- 30 turns end the search for any top up to 2^30
 pub thirty-end : (acc : ℕ → Bool) (top : ℕ) → top ≤ 2 ^ 30 → width (lastBracket acc top) ≤ 1
-thirty-end acc top h = ended acc 30 (whole top) (omega arith)
+thirty-end acc top h = ended acc 30 (widest top) (omega arith)
 
 -- p stays below q, and both stay between the ends they came from
 pub record Inside (b c : Bracket) : Type 0 where
@@ -105,11 +105,11 @@ pub record Found (acc : ℕ → Bool) (top : ℕ) (b : Bracket) : Type 0 where
   pub high : b .q ≤ top
 
 pub found : (acc : ℕ → Bool) (n top : ℕ) → 0 < top → top ≤ 2 ^ n → T (acc 0) → T (not (acc top))
-    → Found acc top (turns acc n (whole top))
+    → Found acc top (turns acc n (widest top))
 found acc n top some fits a r =
-    let k = turns-keep (Kept acc) acc (halve-kept acc) n (whole top) (record { accepted = a; refused = r }) in
-    let i = turns-inside acc n (whole top) some in
-    let e = ended acc n (whole top) (omega arith) in
+    let k = turns-keep (Kept acc) acc (halve-kept acc) n (widest top) (record { accepted = a; refused = r }) in
+    let i = turns-inside acc n (widest top) some in
+    let e = ended acc n (widest top) (omega arith) in
     let o = i .order in
     let h = i .high in
     record { accepted = k .accepted; refused = k .refused; next = omega arith; high = h }

@@ -1,6 +1,5 @@
 pub mod Halving
-pub mod Loop
-pub mod Answer
-pub mod Refusals
-pub mod Ends
-pub mod Laws
+pub mod Searches
+pub mod Encloses
+pub mod CodeLoop
+pub mod CodeAnswer

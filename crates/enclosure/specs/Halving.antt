@@ -5,8 +5,8 @@ use lib.Dec.{ltb}
 use Rattle.enclosure.specs.declared.Bracket.{Bracket}
 
 -- R25: where a search begins
-abbrev pub whole : ℕ → Bracket
-whole top = record { p = 0; q = top }
+abbrev pub widest : ℕ → Bracket
+widest top = record { p = 0; q = top }
 
 -- R25: the middle, rounded down
 abbrev pub middle : Bracket → ℕ
@@ -31,12 +31,13 @@ turns acc (suc n) b = turns acc n (halve acc b)
 
 -- R25: 30 turns end the search for any top up to 2^30: from there on q - p is 1
 abbrev pub lastBracket : (ℕ → Bool) → ℕ → Bracket
-lastBracket acc top = turns acc 30 (whole top)
+lastBracket acc top = turns acc 30 (widest top)
 
 -- R26: p is always accepted and q never; the last p is the answer
 abbrev pub lowerSearch : (ℕ → Bool) → ℕ → ℕ
 lowerSearch acc top = lastBracket acc top .p
 
--- R27: p is never accepted and q always, so the test is turned round; the last q is the answer
+-- R27: 0 where it is accepted already; else p is never accepted and q always, so the test is turned round, and the last q is
+-- the answer
 abbrev pub upperSearch : (ℕ → Bool) → ℕ → ℕ
-upperSearch acc top = lastBracket (λ X. not (acc X)) top .q
+upperSearch acc top = cond (acc 0) 0 (lastBracket (λ X. not (acc X)) top .q)

@@ -1,3 +1,3 @@
 pub mod Halving
 pub mod Enclosure
-pub mod Tested
+pub mod Moves

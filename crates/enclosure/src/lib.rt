@@ -1,18 +1,16 @@
-// The enclosure of an orbit's eccentric anomaly between two accepted ends, found by halving.
+// The enclosure of a problem's eccentric anomaly between two accepted ends, found by halving.
 ghost use mathlib.Core.Path.{_≡_};
 ghost use mathlib.Core.List.{[], _∷_};
 ghost use Rattle.grid.specs.Grid.{T-units};
-ghost use Rattle.grid.specs.Codes.{answer};
-ghost use Rattle.ends.specs.Fair.{Fair};
+ghost use Rattle.grid.specs.Codes.{checked};
+ghost use Rattle.orbit.specs.Given.{grid, ProblemIn};
+ghost use Rattle.ends.specs.Sides.{Asked};
 ghost use Rattle.enclosure.specs.Halving.{lastBracket};
 ghost use Rattle.enclosure.specs.Enclosure.{T-check, refusal, enclosed, enclosureRule};
-ghost use Rattle.enclosure.specs.Tested.{Tested, movesP};
-use ends::Orbit;
-use ends::OrbitOr;
+ghost use Rattle.enclosure.specs.Moves.{movesP};
 use grid::Angle;
-use grid::Depth;
-use grid::DepthOr;
 use grid::codes;
+use orbit::Problem;
 
 // A code, and with code 0 the lower end a and the upper end b, in units.
 #[repr(C)]
@@ -28,29 +26,29 @@ struct Bracket {
     q: u32,
 }
 
-// Whether a search moves p to x: a lower search where x is accepted, an upper search where it is not.
-fn moves_p(o: Orbit, x: Angle, d: Depth, lower: bool) -> bool
-    requires { ⌜ Fair o x d ⌝ }
-    ensures { λ r. ⌜ r ≡ movesP lower o (d .pairs) (x .units) ⌝ }
+// Whether a search moves p to x: that of an upper end where x is not accepted, that of a lower end where it is.
+fn moves_p(problem: Problem, x: Angle, upper: bool) -> bool
+    requires { ⌜ Asked problem x ⌝ }
+    ensures { λ r. ⌜ r ≡ movesP upper (problem .cell) (problem .depth .pairs) (x .units) ⌝ }
 {
-    if lower {
-        ends::lower(o, x, d)
+    if upper {
+        !ends::upper(problem, x)
     } else {
-        !ends::upper(o, x, d)
+        ends::lower(problem, x)
     }
 }
 
 // The last p and q of a search from 0 and T.
-fn last_bracket(o: Orbit, d: Depth, lower: bool) -> Bracket
-    requires { ⌜ Tested o d ⌝ }
-    ensures { λ r. ⌜ r ≡ lastBracket (movesP lower o (d .pairs)) T-units ⌝ }
+fn last_bracket(problem: Problem, upper: bool) -> Bracket
+    requires { ⌜ ProblemIn problem ⌝ }
+    ensures { λ r. ⌜ r ≡ lastBracket (movesP upper (problem .cell) (problem .depth .pairs)) T-units ⌝ }
 {
     let mut p = 0;
     let mut q = Angle::T;
     while q - p > 1 {
         let middle = (p + q) / 2;
         let units = middle as u64;
-        if moves_p(o, Angle { units }, d, lower) {
+        if moves_p(problem, Angle { units }, upper) {
             p = middle;
         } else {
             q = middle;
@@ -65,24 +63,23 @@ fn refused(code: u32) -> Enclosure
     Enclosure { code, a: 0, b: 0 }
 }
 
-// Both searches, of an orbit and a depth on the grid; code 6 where T is not accepted as an upper end.
-fn enclose_orbit(o: Orbit, d: Depth) -> Enclosure
-    requires { ⌜ Tested o d ⌝ }
-    ensures { λ r. ⌜ r ≡ answer (T-check o (d .pairs) ∷ []) refusal (enclosed o (d .pairs)) ⌝ }
+// Both searches, of a problem within its limits; code 6 where T is not accepted as an upper end.
+fn enclose_problem(problem: Problem) -> Enclosure
+    requires { ⌜ ProblemIn problem ⌝ }
+    ensures { λ r. ⌜ r ≡ checked (T-check (problem .cell) (problem .depth .pairs) ∷ []) refusal (enclosed (problem .cell) (problem .depth .pairs)) ⌝ }
 {
-    let top = Angle::T as u64;
-    if !ends::upper(o, Angle { units: top }, d) {
+    if !ends::upper(problem, Angle { units: grid::T }) {
         return refused(codes::NO_UPPER_END);
     }
-    let below = last_bracket(o, d, true);
-    if ends::upper(o, Angle { units: 0 }, d) {
+    let below = last_bracket(problem, false);
+    if ends::upper(problem, Angle { units: 0 }) {
         return Enclosure {
             code: codes::DONE,
             a: below.p,
             b: 0,
         };
     }
-    let above = last_bracket(o, d, false);
+    let above = last_bracket(problem, true);
     Enclosure {
         code: codes::DONE,
         a: below.p,
@@ -92,13 +89,12 @@ fn enclose_orbit(o: Orbit, d: Depth) -> Enclosure
 
 // The enclosure of M and A at a depth, or the code of what is out of limits: 1, 2, 3, then 6.
 pub fn enclose(m: u32, a: u32, depth: u32) -> Enclosure
-    ensures { λ r. ⌜ r ≡ enclosureRule m a depth ⌝ }
+    ensures { λ r. ⌜ r ≡ enclosureRule (grid m a) depth ⌝ }
 {
-    match Orbit::new(m, a) {
-        OrbitOr::Refused(code) => refused(code),
-        OrbitOr::Made(o) => match Depth::new(depth) {
-            DepthOr::Refused(code) => refused(code),
-            DepthOr::Made(d) => enclose_orbit(o, d),
-        },
+    let posed = Problem::new(m, a, depth);
+    if posed.code != codes::DONE {
+        return refused(posed.code);
     }
+    let problem = posed.problem;
+    enclose_problem(problem)
 }

@@ -1,15 +1,17 @@
 -- What the code of a call's checks says: where it is 0 all of them passed, else the call is refused with it; and the code of
 -- checks one after the other. Assumes nothing.
 use mathlib.Core.Path.{_≡_, refl, sym, ap, _∙_}
-use mathlib.Core.Bool.{Bool, true, false, cond}
+use mathlib.Core.Bool.{Bool, true, false, not, cond}
 use mathlib.Core.List.{List, [], _∷_, _++_}
+use mathlib.Core.Logic.{inl, inr}
 use Prim.Native.Nat.{ℕ, _<_}
 use native.Mathlib.Omega.{arith}
 use borrow.Author.Tests.{ne-eqb, eqb-true, eqb-false}
-use lib.Dec.{T, ltb, eqb, ltb→lt}
+use lib.Dec.{T, T-not, ltb, eqb, ltb→lt}
+use lib.Ieee.Fits.{eq→eqb}
 use Rattle.whole.proofs.Table.{both-parts}
 use Rattle.grid.specs.Codes.{Code, Check, number, done, limit-check, firstCode, earlier, checked, Passed}
-use Rattle.grid.specs.Refuses.{all}
+use Rattle.grid.specs.Refuses.{FirstFails, all}
 
 -- no code of a check is 0
 abbrev pub coded : List Check → Bool
@@ -79,3 +81,14 @@ neither-code j k e = by (eqb j 0) refl e
 pub split : (cs ds : List Check) → Passed (cs ++ ds) → Passed cs × Passed ds
 split [] ds p = (tt, p)
 split (c ∷ cs) ds p = let q = split cs ds (p .1) in ((p .0, q .0), q .1)
+
+-- a code that only the last check has: all before it passed, and it failed
+pub only-last : (k : ℕ) (cs : List Check) (c : Check) → T (all (λ (d : Check). not (eqb (number (d .code)) k)) cs)
+    → FirstFails k (cs ++ c ∷ []) → Passed cs × (c .fails ≡ true)
+only-last k [] c t f = elim f [ inl p ↦ (tt, p .0) | inr p ↦ absurd (p .1) ]
+only-last k (d ∷ cs) c t f =
+    let (other, others) = both-parts (not (eqb (number (d .code)) k)) (all (λ (d : Check). not (eqb (number (d .code)) k)) cs) t in
+    elim f [
+      | inl p ↦ absurd (T-not (eqb (number (d .code)) k) other (eq→eqb (p .1)))
+      | inr p ↦ let r = only-last k cs c others (p .1) in ((p .0, r .0), r .1)
+    ]

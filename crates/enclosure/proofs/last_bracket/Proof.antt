@@ -4,16 +4,16 @@ use Prim.Native.Nat.{_-_}
 use native.Mathlib.Omega.{arith}
 use borrow.Author.Needs.{needs}
 use Rattle.grid.specs.Grid.{T-units}
-use Rattle.enclosure.specs.Tested.{movesP}
-use Rattle.enclosure.proofs.Loop.{Going, start, accepted, refused, last}
+use Rattle.enclosure.specs.Moves.{movesP}
+use Rattle.enclosure.proofs.CodeLoop.{Going, start, accepted, refused, last}
 use Rattle.enclosure.proofs.last_bracket.Statement.{statement}
 use Rattle.enclosure.proofs.last_bracket.Tie as tie
 
 abbrev Inv-loop : tie.InvT-loop
-Inv-loop o d lower p₀ q₀ p q = Going (movesP lower o (d .pairs)) T-units p q
+Inv-loop problem upper p₀ q₀ p q = Going (movesP upper (problem .cell) (problem .depth .pairs)) T-units p q
 
 abbrev μ-loop : tie.MeasureT-loop
-μ-loop o d lower p₀ q₀ p q = q - p
+μ-loop problem upper p₀ q₀ p q = q - p
 
 loop-holds : tie.Need-loop-holds Inv-loop μ-loop
 loop-holds c = start _ _ (omega arith)

@@ -1,12 +1,9 @@
--- `enclosure::enclose_orbit` meets its contract: the tests of T and of 0 that led to each return are the rule's.
+-- `enclosure::enclose_problem` meets its contract: the tests of T and of 0 that led to each return are the rule's.
 -- Assumes nothing.
 use borrow.Author.Needs.{needs}
-use Rattle.enclosure.proofs.Answer.{without-T, from-zero, from-searches}
-use Rattle.enclosure.proofs.enclose_orbit.Statement.{statement}
-use Rattle.enclosure.proofs.enclose_orbit.Tie as tie
-
-cast-top : tie.Need-cast-top
-cast-top c = search needs
+use Rattle.enclosure.proofs.CodeAnswer.{without-T, from-zero, from-searches}
+use Rattle.enclosure.proofs.enclose_problem.Statement.{statement}
+use Rattle.enclosure.proofs.enclose_problem.Tie as tie
 
 upper-requires : tie.Need-upper-requires
 upper-requires c κs = search needs
@@ -37,11 +34,10 @@ returns-3 c =
     (c .before .before .upper2 .ensures) (c .before .before .before .last-bracket .ensures) (c .before .if2 .left)
     (c .last-bracket2 .ensures)
 
-pub enclose-orbit-spec : {M : Type 1} → statement M
-enclose-orbit-spec =
+pub enclose-problem-spec : {M : Type 1} → statement M
+enclose-problem-spec =
     tie.close
     (tie.spec
-    cast-top
     upper-requires
     refused-requires
     returns
