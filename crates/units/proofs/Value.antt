@@ -1,15 +1,15 @@
 -- A double that is finite and not below zero, -0.0 included, as a fraction: `Value x a c` says that x is a / c. Such doubles
 -- compare, and are cut to whole numbers, as their fractions do. Assumes nothing.
-use mathlib.Core.Path.{_≡_, refl, sym, ap, _∙_, subst}
-use mathlib.Core.Bool.{Bool, true, false, not, _||_, Bool·beq}
-use Prim.Native.Nat.{ℕ, _+_, _-_, _*_, _/_, _^_, _≤_, _<_, min}
-use native.Mathlib.Nat.{zero-add, zero-mul, zero-div, le-of-lt, le-of-eq, le-antisymm, lt-of-not-le, not-le-of-lt}
+use mathlib.Core.Path.{_≡_, refl, sym, _∙_, subst}
+use mathlib.Core.Bool.{Bool, true, false, _&&_, _||_}
+use Prim.Native.Nat.{ℕ, zero, suc, _+_, _-_, _*_, _/_, _^_, _≤_, _<_, min}
+use native.Mathlib.Nat.{zero-add, zero-mul, zero-div, zero-lt-suc, lt-of-not-le, not-le-of-lt}
 use native.Mathlib.Omega.{arith}
-use lib.Dec.{T, leb, ltb, eqb, leb→le, le→leb, ltb→lt, lt→ltb, nltb→le, eqb→eq}
+use lib.Dec.{T, leb, ltb, eqb, leb→le, le→leb, ltb→lt, lt→ltb, leb·zero, leb·suc-zero, leb·suc-suc, eqb·suc-zero, eqb·suc-suc}
 use lib.IntN.{ℤ, pos}
-use borrow.Author.Tests.{le-ltb}
+use borrow.Author.Tests.{lt-ltb, le-ltb}
 use lib.Ieee.{Float, nan, inf, fin, up, down, below, level, lt, le, toUnsigned}
-use lib.Ieee.Fits.{down-pos, eq→eqb, and-l, and-i}
+use lib.Ieee.Fits.{down-pos}
 use lib.Ieee.Nearest.{div-same}
 use lib.Ieee.Order.{transfer}
 use Rattle.whole.proofs.Bools.{alike}
@@ -24,30 +24,21 @@ below-is false true a b h k = let z = k tt in sym (le-ltb a b (omega arith))
 below-is true false a b h k = simp (h tt, zero-add)
 below-is true true a b h k = simp (h tt, k tt)
 
-signs : (s t : Bool) (a : ℕ) → (T s → a ≡ 0) → (T t → a ≡ 0) → T (Bool·beq s t || eqb a 0)
-signs false false a h k = tt
-signs false true a h k = eq→eqb (k tt)
-signs true false a h k = eq→eqb (h tt)
-signs true true a h k = tt
+lt-or-eq : (a b : ℕ) → (ltb a b || (eqb a b && true)) ≡ leb a b
+lt-or-eq zero zero = refl
+lt-or-eq zero (suc b) = simp (lt-ltb 0 (suc b) (zero-lt-suc b), leb·zero)
+lt-or-eq (suc a) zero = simp (leb·suc-zero, eqb·suc-zero)
+lt-or-eq (suc a) (suc b) = simp (leb·suc-suc, eqb·suc-suc) (lt-or-eq a b)
 
-either : (p q r : Bool) → (T p → T r) → (T q → T r) → (T r → T (not p) → T q) → (p || q) ≡ r
-either true q true f g h = refl
-either true q false f g h = absurd (f tt)
-either false true true f g h = refl
-either false true false f g h = absurd (g tt)
-either false false true f g h = absurd (h tt tt)
-either false false false f g h = refl
+only-zero : (a : ℕ) → (eqb a 0 && eqb a 0) ≡ leb a 0
+only-zero zero = refl
+only-zero (suc a) = simp (eqb·suc-zero, leb·suc-zero)
 
 le-is : (s t : Bool) (a b : ℕ) → (T s → a ≡ 0) → (T t → b ≡ 0) → (below s a t b || level s a t b) ≡ leb a b
-le-is s t a b h k =
-    let same = Bool·beq s t || eqb a 0 in
-    ap (λ (p : Bool). p || level s a t b) (below-is s t a b h k)
-    ∙ either (ltb a b) (level s a t b) (leb a b)
-    (λ p. le→leb a b (le-of-lt (ltb→lt a b p)))
-    (λ q. le→leb a b (le-of-eq (eqb→eq a b (and-l (eqb a b) same q))))
-    (λ r p.
-    let e : a ≡ b = le-antisymm (leb→le a b r) (nltb→le a b p) in
-    and-i (eqb a b) same (eq→eqb e) (signs s t a h (λ z. e ∙ k z)))
+le-is false false a b h k = lt-or-eq a b
+le-is false true a b h k = simp (k tt) (only-zero a)
+le-is true false a b h k = simp (h tt, zero-add) (lt-or-eq 0 b)
+le-is true true a b h k = simp (h tt, k tt)
 
 sign : (m : ℕ) (e : ℤ) (n : ℕ) → m ≡ 0 → m * up e * n ≡ 0
 sign m e n z = simp (z, zero-mul)
