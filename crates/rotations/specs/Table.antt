@@ -50,6 +50,7 @@ product f (suc n) = product f n * f n
 abbrev pub numerator : ℕ
 numerator = product (λ k. 4 ^ k) entries
 
+-- R34: its lower part
 abbrev pub denominator : ℕ
 denominator = product (λ k. 4 ^ k + 1) entries
 

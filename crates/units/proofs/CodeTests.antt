@@ -17,7 +17,7 @@ use lib.Ieee.Order.{round-mono}
 use Rattle.grid.specs.Grid.{one}
 use Rattle.units.specs.Units.{product, offRange}
 use Rattle.units.specs.Exact.{radian, Value}
-use Rattle.units.proofs.Value.{le-value, lt-value, above-minus-one, floor-value}
+use Rattle.units.proofs.Value.{compares, cut}
 use Rattle.units.proofs.Range.{InRange, passed-in-range, floor-fits, product-value, top}
 
 abbrev none : Float
@@ -43,7 +43,7 @@ other true f = refl
 other false f = absurd (f refl)
 
 first-test : (x : Float) → Value x (num x) (den x) → le none x ≡ true
-first-test x v = le-value none x 0 1 (num x) (den x) (zero-lt-suc 0) (den-pos x) none-value v ∙ le-leb (0 * den x) (num x * 1) (omega arith)
+first-test x v = compares none x 0 1 (num x) (den x) (zero-lt-suc 0) (den-pos x) none-value v .0 ∙ le-leb (0 * den x) (num x * 1) (omega arith)
 
 pub off-low : (limit : ℕ) (x : Float) → le none x ≡ false → offRange limit x ≡ true
 off-low limit x h =
@@ -58,8 +58,8 @@ module _ {limit : ℕ} {x : Float} (h : Held limit x) where
   second-test : InRange (limit + 1) x → le (mul binary64 x radian) (ofInt binary64 (pos limit)) ≡ leb (product x * 1) (limit * den x)
   second-test r =
       let few = h .few in
-      le-value (mul binary64 x radian) (ofInt binary64 (pos limit)) (product x) (den x) limit 1 (den-pos x) (zero-lt-suc 0)
-      (product-value (limit + 1) x (omega arith) (h .double) r) (whole-value limit (omega arith))
+      compares (mul binary64 x radian) (ofInt binary64 (pos limit)) (product x) (den x) limit 1 (den-pos x) (zero-lt-suc 0)
+      (product-value (limit + 1) x (omega arith) (h .double) r) (whole-value limit (omega arith)) .0
 
   pub off-high : le (mul binary64 x radian) (ofInt binary64 (pos limit)) ≡ false → offRange limit x ≡ true
   off-high f =
@@ -96,8 +96,8 @@ nothing-between n y (fin true m e) z v w a h k = absurd a
 nothing-between n y (fin false m e) z v w a h k =
     let own : Value (fin false m e) (m * up e) (down e) = (λ (t : ⊥). absurd t, refl) in
     let one-pos = zero-lt-suc 0 in
-    let low = leb→le ((n + 1) * down e) (m * up e * 1) (subst T (le-value y (fin false m e) (n + 1) 1 (m * up e) (down e) one-pos (down-pos e) v own) h) in
-    let high = leb→le (m * up e * 1) (n * down e) (subst T (le-value (fin false m e) z (m * up e) (down e) n 1 (down-pos e) one-pos own w) k) in
+    let low = leb→le ((n + 1) * down e) (m * up e * 1) (subst T (compares y (fin false m e) (n + 1) 1 (m * up e) (down e) one-pos (down-pos e) v own .0) h) in
+    let high = leb→le (m * up e * 1) (n * down e) (subst T (compares (fin false m e) z (m * up e) (down e) n 1 (down-pos e) one-pos own w .0) k) in
     let d = down-pos e in
     omega arith
 
@@ -151,16 +151,18 @@ module _ {limit : ℕ} {x : Float} (h : Held limit x) (r : InRange limit x) wher
       let s = r .small in
       let k = mul-le-mul-right (den x) (le-of-lt (h .few)) in
       let end : ℕ = 2 ^ 64 in
-      let below : lt (mul binary64 x radian) (fin false 1 (pos 64)) ≡ ltb (product x * 1) (end * den x) =
-      lt-value (mul binary64 x radian) (fin false 1 (pos 64)) (product x) (den x) end 1 d (zero-lt-suc 0) exact (λ (z : ⊥). absurd z, refl) in
-      (above-minus-one (mul binary64 x radian) (product x) (den x) d exact, subst T (sym (below ∙ lt-ltb (product x * 1) (end * den x) (omega arith))) tt)
+      let below =
+      compares (mul binary64 x radian) (fin false 1 (pos 64)) (product x) (den x) end 1 d (zero-lt-suc 0) exact (λ (z : ⊥). absurd z, refl) .1 in (
+        cut (mul binary64 x radian) (product x) (den x) d exact .0,
+        subst T (sym (below ∙ lt-ltb (product x * 1) (end * den x) (omega arith))) tt,
+      )
 
   pub floor-is : toUnsigned 64 (mul binary64 x radian) ≡ product x / den x
-  floor-is = let f = floor-few in floor-value (mul binary64 x radian) (product x) (den x) (den-pos x) exact (omega arith)
+  floor-is = let f = floor-few in cut (mul binary64 x radian) (product x) (den x) (den-pos x) exact .1 (omega arith)
 
   pub test-is : lt (ofInt binary64 (pos (product x / den x))) (mul binary64 x radian) ≡ ltb (product x / den x * den x) (product x)
   test-is =
       let q = product x / den x in
-      lt-value (ofInt binary64 (pos q)) (mul binary64 x radian) q 1 (product x) (den x) (zero-lt-suc 0) (den-pos x)
-      (whole-value q (le-of-lt floor-few)) exact
+      compares (ofInt binary64 (pos q)) (mul binary64 x radian) q 1 (product x) (den x) (zero-lt-suc 0) (den-pos x)
+      (whole-value q (le-of-lt floor-few)) exact .1
       ∙ ap (λ (n : ℕ). ltb (q * den x) n) (mul-one (product x))

@@ -1,22 +1,23 @@
--- An estimate that passes its check is rounded down and up, the two differ by one at most, and neither is above T.
--- Assumes nothing.
+-- An estimate that passes its check has an exact product, which is rounded down and up; the two differ by one at most, and
+-- neither is above T. Assumes nothing.
 use mathlib.Core.Path.{_≡_, subst}
 use mathlib.Core.Bool.{false}
 use Prim.Native.Nat.{ℕ, _*_, _≤_, _<_}
 use native.Mathlib.Nat.{le-of-eq, le-antisymm}
 use native.Mathlib.Omega.{arith}
 use mathlib.Core.List.{[], _∷_}
-use lib.Ieee.{Float}
+use lib.Dec.{T, lit≤}
+use lib.Ieee.{Float, binary64, mul, fits}
 use lib.Ieee.Positive.{den, den-pos}
 use Rattle.whole.specs.Round.{down, up}
 use Rattle.whole.proofs.Round.{down-le, lt-down, le-up, up-lt, down-le-up, up-whole, up-le-next}
 use Rattle.grid.specs.Grid.{T-units}
 use Rattle.grid.proofs.FirstCode.{passed}
 use Rattle.units.specs.Units.{product, floorAndCeiling, estimate-check, codedEstimate}
-use Rattle.units.specs.Exact.{Rounded}
+use Rattle.units.specs.Exact.{radian, Value, Rounded}
 use Rattle.units.specs.Limits.{UnitsIn}
 use Rattle.units.specs.declared.CodedUnits.{CodedUnits}
-use Rattle.units.proofs.Range.{passed-in-range, floor-fits, ceiling-fits}
+use Rattle.units.proofs.Range.{passed-in-range, floor-fits, ceiling-fits, product-value}
 use Rattle.units.proofs.Made.{estimates}
 
 pub estimate-fits : (x : Float) → estimate-check x .fails ≡ false → UnitsIn (floorAndCeiling x)
@@ -41,10 +42,14 @@ pub passed-rounded : (x : Float) → estimate-check x .fails ≡ false
     → Rounded (product x) (den x) (floorAndCeiling x .floor) (floorAndCeiling x .ceiling)
 passed-rounded x h = rounded (product x) (den x) (den-pos x) (estimate-fits x h .ceiling)
 
--- whatever is answered with code 0
-pub made-rounded : (x : Float) (r : CodedUnits) → r ≡ codedEstimate x → r .code ≡ 0
-    → Rounded (product x) (den x) (r .units .floor) (r .units .ceiling)
-made-rounded x r e z =
-    let m = estimates x in
-    let p = passed (estimate-check x ∷ []) tt (r .code) (m .code-is r e) z in
-    rw (m .value-is r e z) (passed-rounded x (p .0))
+-- ---- whatever is answered with code 0
+
+module _ (x : Float) (r : CodedUnits) (e : r ≡ codedEstimate x) (z : r .code ≡ 0) where
+  pub made-passed : estimate-check x .fails ≡ false
+  made-passed = passed (estimate-check x ∷ []) tt (r .code) (estimates x .code-is r e) z .0
+
+  pub made-exact : T (fits binary64 x) → Value (mul binary64 x radian) (product x) (den x)
+  made-exact t = product-value T-units x (lit≤ tt) t (passed-in-range T-units x made-passed)
+
+  pub made-rounded : Rounded (product x) (den x) (r .units .floor) (r .units .ceiling)
+  made-rounded = rw (estimates x .value-is r e z) (passed-rounded x made-passed)

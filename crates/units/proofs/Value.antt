@@ -58,47 +58,40 @@ across m e n g a c b d C D p q =
     (λ t. le→leb (a * d) (b * c) (transfer a b c d (m * up e) (n * up g) (down e) (down g) (down-pos e) (down-pos g) (sym p) (sym q) (leb→le (m * up e * down g) (n * up g * down e) t)))
     (λ t. le→leb (m * up e * down g) (n * up g * down e) (transfer (m * up e) (n * up g) (down e) (down g) a b c d C D p q (leb→le (a * d) (b * c) t)))
 
-pub le-value : (x y : Float) (a c b d : ℕ) → 0 < c → 0 < d → Value x a c → Value y b d → le x y ≡ leb (a * d) (b * c)
-unfolding le
-le-value nan y a c b d C D v w = absurd v
-le-value (inf s) y a c b d C D v w = absurd v
-le-value (fin s m e) nan a c b d C D v w = absurd w
-le-value (fin s m e) (inf t) a c b d C D v w = absurd w
-le-value (fin s m e) (fin t n g) a c b d C D v w =
-    le-is s t (m * up e * down g) (n * up g * down e) (λ z. sign m e (down g) (v .0 z)) (λ z. sign n g (down e) (w .0 z))
-    ∙ across m e n g a c b d C D (v .1) (w .1)
-
-pub lt-value : (x y : Float) (a c b d : ℕ) → 0 < c → 0 < d → Value x a c → Value y b d → lt x y ≡ ltb (a * d) (b * c)
-unfolding lt
-lt-value nan y a c b d C D v w = absurd v
-lt-value (inf s) y a c b d C D v w = absurd v
-lt-value (fin s m e) nan a c b d C D v w = absurd w
-lt-value (fin s m e) (inf t) a c b d C D v w = absurd w
-lt-value (fin s m e) (fin t n g) a c b d C D v w =
-    below-is s t (m * up e * down g) (n * up g * down e) (λ z. sign m e (down g) (v .0 z)) (λ z. sign n g (down e) (w .0 z))
-    ∙ not-le (n * up g * down e) (m * up e * down g) (b * c) (a * d) (across n g m e b d a c D C (w .1) (v .1))
+-- both tests at once
+pub compares : (x y : Float) (a c b d : ℕ) → 0 < c → 0 < d → Value x a c → Value y b d
+    → (le x y ≡ leb (a * d) (b * c)) × (lt x y ≡ ltb (a * d) (b * c))
+unfolding le lt
+compares nan y a c b d C D v w = absurd v
+compares (inf s) y a c b d C D v w = absurd v
+compares (fin s m e) nan a c b d C D v w = absurd w
+compares (fin s m e) (inf t) a c b d C D v w = absurd w
+compares (fin s m e) (fin t n g) a c b d C D v w =
+    let p = m * up e * down g in
+    let q = n * up g * down e in
+    let P : T s → p ≡ 0 = λ z. sign m e (down g) (v .0 z) in
+    let Q : T t → q ≡ 0 = λ z. sign n g (down e) (w .0 z) in (
+      le-is s t p q P Q ∙ across m e n g a c b d C D (v .1) (w .1),
+      below-is s t p q P Q ∙ not-le q p (b * c) (a * d) (across n g m e b d a c D C (w .1) (v .1)),
+    )
 
 -- ---- the whole part
-
--- what a cast to a u64 asks and gives
-pub above-minus-one : (x : Float) (a c : ℕ) → 0 < c → Value x a c → T (lt (fin true 1 (pos 0)) x)
-unfolding lt
-above-minus-one nan a c C v = absurd v
-above-minus-one (inf s) a c C v = absurd v
-above-minus-one (fin false m e) a c C v =
-    let p = down-pos e in lt→ltb 0 (1 * down e + m * up e * 1) (omega arith)
-above-minus-one (fin true m e) a c C v =
-    let p = down-pos e in let z = sign m e 1 (v .0 tt) in lt→ltb (m * up e * 1) (1 * down e) (omega arith)
 
 uncapped : (p q : ℕ) → p ≡ q → q < 2 ^ 64 → min p (2 ^ 64 - 1) ≡ q
 uncapped p q e h = omega arith
 
-pub floor-value : (x : Float) (a c : ℕ) → 0 < c → Value x a c → a / c < 2 ^ 64 → toUnsigned 64 x ≡ a / c
-unfolding toUnsigned
-floor-value nan a c C v h = absurd v
-floor-value (inf s) a c C v h = absurd v
-floor-value (fin false m e) a c C v h =
-    uncapped (m * up e / down e) (a / c) (div-same (m * up e) (down e) a c (down-pos e) C (v .1)) h
-floor-value (fin true m e) a c C v h =
-    let z : m * up e / down e ≡ 0 = simp (v .0 tt, zero-mul, zero-div) in
-    sym z ∙ div-same (m * up e) (down e) a c (down-pos e) C (v .1)
+-- what a cast to a u64 asks and gives
+pub cut : (x : Float) (a c : ℕ) → 0 < c → Value x a c
+    → T (lt (fin true 1 (pos 0)) x) × (a / c < 2 ^ 64 → toUnsigned 64 x ≡ a / c)
+unfolding lt toUnsigned
+cut nan a c C v = absurd v
+cut (inf s) a c C v = absurd v
+cut (fin false m e) a c C v = (
+  let p = down-pos e in lt→ltb 0 (1 * down e + m * up e * 1) (omega arith),
+  uncapped (m * up e / down e) (a / c) (div-same (m * up e) (down e) a c (down-pos e) C (v .1)),
+)
+cut (fin true m e) a c C v =
+    let z = v .0 tt in (
+      let p = down-pos e in let k = sign m e 1 z in lt→ltb (m * up e * 1) (1 * down e) (omega arith),
+      λ h. sym (simp (z, zero-mul, zero-div)) ∙ div-same (m * up e) (down e) a c (down-pos e) C (v .1),
+    )

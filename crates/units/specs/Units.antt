@@ -25,6 +25,7 @@ offRange limit nan = true
 offRange limit (inf s) = true
 offRange limit (fin s m e) = or (s && ltb 0 m) (ltb (limit * den (fin s m e)) (product (fin s m e)))
 
+-- R41: f and c beside a code
 abbrev pub unitsWith : ℕ → Units → CodedUnits
 unitsWith code u = record { code = code; units = u }
 

@@ -33,9 +33,6 @@ unfolding ofBits
 passed c =
     within (value c) (held (start c)) (subst T (sym (c .before .before .if1 .taken)) tt) (subst T (sym (c .if2 .taken)) tt)
 
-int-to-float-if2 : tie.Need-int-to-float-if2
-int-to-float-if2 c = tt
-
 truncating-f64-to-u64-requires : tie.Need-truncating-f64-to-u64-requires
 unfolding ofBits
 truncating-f64-to-u64-requires c κs = floor-asks (held (start c)) (passed c)
@@ -103,7 +100,7 @@ pub in-units-spec : {M : Type 1} → statement M
 in-units-spec =
     tie.close
     (tie.spec
-    int-to-float-if2
+    (λ c. tt)
     truncating-f64-to-u64-requires
     int-to-float-if3
     add-ceiling
