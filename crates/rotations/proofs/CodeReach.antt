@@ -3,12 +3,12 @@
 use mathlib.Core.Bool.{Bool, false}
 use Prim.Native.Nat.{ℕ, zero, suc, _+_, _-_, _*_, _^_, _/_, _≤_, _<_}
 use native.Mathlib.Omega.{arith}
-use native.Mathlib.Nat.{add-zero, add-suc, add-sub-of-le, mul-le-mul-right, div-le-of-le-mul}
+use native.Mathlib.Nat.{le-refl, add-zero, add-suc, add-sub-of-le, mul-le-mul-right, div-le-of-le-mul}
 use lib.Dec.{lit≤}
 use lib.IntN.{ℤ, pos, natAbs, _+ℤ_}
 use Rattle.grid.specs.Grid.{one}
 use Rattle.rotations.specs.Table.{entry, G}
-use Rattle.rotations.specs.Rotate.{signedBy, shifted, turned, plusAt, shiftOf, rotations, start, fifty}
+use Rattle.rotations.specs.Rotate.{signedBy, shifted, turned, plusAt, shiftOf, rotations, start, fifty, rotated}
 use Rattle.rotations.specs.Room.{RoomyState, room}
 use Rattle.rotations.specs.declared.State.{State}
 use Rattle.rotations.proofs.CodeSize.{size-add, size-sign, shrunk, entry-small}
@@ -33,23 +33,23 @@ gained : (i : ℕ) (y v : ℤ) → natAbs y ≤ reach i → natAbs v ≤ reach i
 unfolding reach
 gained i y v h k = omega (arith, size-add y v)
 
-pub step : (i : ℕ) (plus : Bool) (s : State) → i < fifty → Reached i s → Reached (suc i) (turned s (shiftOf i) plus)
+step : (i : ℕ) (plus : Bool) (s : State) → i < fifty → Reached i s → Reached (suc i) (turned s (shiftOf i) plus)
 unfolding turned
 step i plus s h w =
     let v = signedBy plus (pos (entry (shiftOf i))) in
-    let dx = signedBy plus (shifted (shiftOf i) (s .cosine)) in
-    let dy = signedBy plus (shifted (shiftOf i) (s .sine)) in
+    let of-cosine = signedBy plus (shifted (shiftOf i) (s .cosine)) in
+    let of-sine = signedBy plus (shifted (shiftOf i) (s .sine)) in
     record {
       angle =
           let a = w .angle in
           omega (arith, size-add (s .angle) v, size-sign plus (pos (entry (shiftOf i))), entry-small (shiftOf i) (omega arith));
       cosine =
-          gained i (s .cosine) (signedBy false dy) (w .cosine)
-          (let a = part i plus (s .sine) (w .sine) in omega (arith, size-sign false dy));
-      sine = gained i (s .sine) dx (w .sine) (part i plus (s .cosine) (w .cosine));
+          gained i (s .cosine) (signedBy false of-sine) (w .cosine)
+          (let a = part i plus (s .sine) (w .sine) in omega (arith, size-sign false of-sine));
+      sine = gained i (s .sine) of-cosine (w .sine) (part i plus (s .cosine) (w .cosine));
     }
 
-pub start-reached : (a : ℕ) → a ≤ one → Reached 0 (start a)
+start-reached : (a : ℕ) → a ≤ one → Reached 0 (start a)
 unfolding start reach G
 start-reached a h =
     record {
@@ -83,3 +83,8 @@ roomy {n} {s} k w =
       cosine = record { size = let a = w .cosine in omega arith };
       sine = record { size = let a = w .sine in omega arith };
     }
+
+-- where they end
+pub rotated-roomy : (m a : ℕ) → a ≤ one → RoomyState (rotated m a)
+unfolding rotated
+rotated-roomy m a h = roomy (le-refl fifty) (reached m a fifty h (le-refl fifty))

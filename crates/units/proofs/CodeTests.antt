@@ -23,9 +23,6 @@ use Rattle.units.proofs.Range.{InRange, passed-in-range, floor-fits, pr
 abbrev none : Float
 none = fin false 0 (pos 0)
 
-none-value : Value none 0 1
-none-value = (λ t. refl, refl)
-
 -- a whole number as a double
 plain : (x : Float) (a c : ℕ) → HasValue x false a c → Value x a c
 plain nan a c v = absurd v
@@ -43,7 +40,7 @@ other true f = refl
 other false f = absurd (f refl)
 
 first-test : (x : Float) → Value x (num x) (den x) → le none x ≡ true
-first-test x v = compares none x 0 1 (num x) (den x) (zero-lt-suc 0) (den-pos x) none-value v .0 ∙ le-leb (0 * den x) (num x * 1) (omega arith)
+first-test x v = compares none x 0 1 (num x) (den x) (zero-lt-suc 0) (den-pos x) (λ t. refl, refl) v .0 ∙ le-leb (0 * den x) (num x * 1) (omega arith)
 
 pub off-low : (limit : ℕ) (x : Float) → le none x ≡ false → offRange limit x ≡ true
 off-low limit x h =
