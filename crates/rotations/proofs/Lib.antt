@@ -1,5 +1,5 @@
 pub mod Floor
-pub mod Limits
-pub mod Ranges
-pub mod Size
 pub mod Table
+pub mod Brought
+pub mod CodeSize
+pub mod CodeReach

@@ -1,10 +1,10 @@
 -- R33, R34: the arctangent table keeps its rule at each entry, by one computed test, and G keeps its own. Assumes nothing.
-use Prim.Native.Nat.{ℕ, zero, suc, _+_, _*_, _^_, _≤_, _<_}
+use Prim.Native.Nat.{ℕ, zero, suc, _+_, _*_, _^_, _<_}
 use native.Mathlib.Omega.{arith}
 use native.Mathlib.Nat.{mul-pos, one-le-pow}
 use lib.Pow.{pow-pos}
 use mathlib.Core.Bool.{Bool, _&&_}
-use lib.Dec.{T, lit≤, lit<, leb, leb→le}
+use lib.Dec.{T, lit≤, lit<}
 use lib.IntN.{pos, _*ℤ_}
 use lib.Signed.{leZ, ltZ, leZ-yes, ltZ-yes}
 use Rattle.grid.specs.Grid.{one}
@@ -47,11 +47,6 @@ unfolding low high right
 entry-right k h =
     let t = both-parts (low k (entry k)) (high k (entry k)) (whole-table k h) in
     record { low = leZ-yes (t .0); high = ltZ-yes (t .1) }
-
--- no entry is above one radian, which bounds E
-pub entry-small : (k : ℕ) → k < entries → entry k ≤ one
-unfolding table entry
-entry-small k h = leb→le (entry k) one (at (λ i n. leb n one) table tt k h)
 
 pub G-right : Scaled G
 unfolding G product

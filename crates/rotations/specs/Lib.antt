@@ -1,4 +1,4 @@
 pub mod Atan
 pub mod Table
 pub mod Rotate
-pub mod Small
+pub mod Room

@@ -5,7 +5,6 @@ use lib.IntN.{ℤ, pos, negsuc, negℤ, _+ℤ_, _-ℤ_}
 use lib.Signed.{ltZ, shrZ}
 use Rattle.grid.specs.Grid.{one, T-units}
 use Rattle.whole.specs.Round.{down}
-use Rattle.ends.specs.declared.Orbit.{Orbit}
 use Rattle.rotations.specs.Table.{entry, G}
 use Rattle.rotations.specs.declared.State.{State}
 
@@ -18,14 +17,19 @@ signedBy false z = negℤ z
 unfoldable pub shifted : ℕ → ℤ → ℤ
 shifted k z = shrZ z (2 ^ k)
 
--- R36: one rotation, its sign given: what x and y gain or lose is a part of the old other, rounded first and signed then
+-- R36: one rotation, its sign given: what x, the cosine, and y, the sine, gain or lose is a part of the old other, rounded first
+-- and signed then
 unfoldable pub turned : State → ℕ → Bool → State
 turned s k plus =
-    record { e = s .e +ℤ signedBy plus (pos (entry k)); x = s .x -ℤ signedBy plus (shifted k (s .y)); y = s .y +ℤ signedBy plus (shifted k (s .x)) }
+    record {
+      angle = s .angle +ℤ signedBy plus (pos (entry k));
+      cosine = s .cosine -ℤ signedBy plus (shifted k (s .sine));
+      sine = s .sine +ℤ signedBy plus (shifted k (s .cosine));
+    }
 
 -- R36: whether the sign is plus
 unfoldable pub plusAt : ℕ → State → Bool
-plusAt m s = ltZ (s .e -ℤ s .y) (pos m)
+plusAt m s = ltZ (s .angle -ℤ s .sine) (pos m)
 
 -- R36: the shift of rotation i, counted from 0: each shift comes twice
 abbrev pub shiftOf : ℕ → ℕ
@@ -38,15 +42,15 @@ rotations m (suc n) s = let r = rotations m n s in turned r (shiftOf n) (plusAt 
 
 -- R35: the state before the first rotation
 unfoldable pub start : ℕ → State
-start a = record { e = pos 0; x = pos (down (a * G) one); y = pos 0 }
+start a = record { angle = pos 0; cosine = pos (down (a * G) one); sine = pos 0 }
 
 -- R36: how many rotations there are
 abbrev pub fifty : ℕ
 fifty = 50
 
--- R35, R36: the state after the last rotation of an orbit
-unfoldable pub rotated : Orbit → State
-rotated o = rotations (o .m) fifty (start (o .a))
+-- R35, R36: the state after the last rotation of M and A
+unfoldable pub rotated : ℕ → ℕ → State
+rotated m a = rotations m fifty (start a)
 
 -- R37: E, or the nearer of 0 and T where it lies outside
 abbrev pub brought : ℤ → ℕ

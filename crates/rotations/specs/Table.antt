@@ -46,15 +46,15 @@ unfoldable pub product : (ℕ → ℕ) → ℕ → ℕ
 product f zero = 1
 product f (suc n) = product f n * f n
 
--- R34: the product is `above / below`
-abbrev pub above : ℕ
-above = product (λ k. 4 ^ k) entries
+-- R34: the product is `numerator / denominator`
+abbrev pub numerator : ℕ
+numerator = product (λ k. 4 ^ k) entries
 
 -- R34: its lower part
-abbrev pub below : ℕ
-below = product (λ k. 4 ^ k + 1) entries
+abbrev pub denominator : ℕ
+denominator = product (λ k. 4 ^ k + 1) entries
 
--- R34: g is 2^28 above / below rounded down, multiplied out by the lower part
+-- R34: g is 2^28 numerator / denominator rounded down, multiplied out by the denominator
 pub record Scaled (g : ℕ) : Type 0 where
-  pub low : g * below ≤ one * above
-  pub high : one * above < (g + 1) * below
+  pub low : g * denominator ≤ one * numerator
+  pub high : one * numerator < (g + 1) * denominator

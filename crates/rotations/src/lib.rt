@@ -2,18 +2,16 @@
 ghost use mathlib.Core.Path.{_≡_};
 ghost use Prim.Native.Nat.{_<_, _≤_};
 ghost use lib.IntN.{pos};
-ghost use Rattle.grid.specs.Grid.{one};
+ghost use Rattle.grid.specs.Grid.{one, H-units};
 ghost use Rattle.rotations.specs.Table.{entries, entry};
 ghost use Rattle.rotations.specs.Rotate.{signedBy, shifted, shiftOf, turned, plusAt, start, rotated, brought};
-ghost use Rattle.rotations.specs.Small.{Small, Shiftable, Turnable, Signable, OnGrid};
-use ends::Orbit;
-use grid::Angle;
+ghost use Rattle.rotations.specs.Room.{Roomy, Shiftable, Turnable, Signable};
 
-// E, and e times the cosine and the sine of it, in units.
+// E, and x and y: e times the cosine and the sine of E. All are in units.
 pub struct State {
-    pub e: i64,
-    pub x: i64,
-    pub y: i64,
+    pub angle: i64,
+    pub cosine: i64,
+    pub sine: i64,
 }
 
 // R33: entry k stands at k.
@@ -45,10 +43,6 @@ const TABLE: [u64; 25] = [
     15,
 ];
 
-const ONE: u64 = grid::Eccentricity::ONE as u64;
-
-const T: u64 = Angle::T as u64;
-
 // R34: what A is scaled by.
 const G: u64 = 98_987_219;
 
@@ -69,13 +63,13 @@ fn shift_of(i: u32) -> u32
 }
 
 fn signed(z: i64, plus: bool) -> i64
-    requires { ⌜ Small z ⌝ }
+    requires { ⌜ Roomy z ⌝ }
     ensures { λ r. ⌜ r ≡ signedBy plus z ⌝ }
 {
     if plus { z } else { 0 - z }
 }
 
-// R36: what x loses of y and y gains of x: the shift rounds down, and the sign comes after it.
+// R36: what the cosine loses of the sine, and the sine gains of the cosine: the shift rounds down, and the sign comes after it.
 fn part(z: i64, k: u32, plus: bool) -> i64
     requires { ⌜ Shiftable z k ⌝ }
     ensures { λ r. ⌜ r ≡ signedBy plus (shifted k z) ⌝ }
@@ -88,11 +82,15 @@ fn turn(s: State, k: u32, plus: bool) -> State
     requires { ⌜ Turnable s k ⌝ }
     ensures { λ r. ⌜ r ≡ turned s k plus ⌝ }
 {
-    let e = s.e + signed(entry(k), plus);
-    let old = s.x;
-    let x = old - part(s.y, k, plus);
-    let y = s.y + part(old, k, plus);
-    State { e, x, y }
+    let angle = s.angle + signed(entry(k), plus);
+    let old = s.cosine;
+    let cosine = old - part(s.sine, k, plus);
+    let sine = s.sine + part(old, k, plus);
+    State {
+        angle,
+        cosine,
+        sine,
+    }
 }
 
 // R36: the sign of the next rotation, true for plus.
@@ -100,7 +98,7 @@ fn sign(s: State, m: u64) -> bool
     requires { ⌜ Signable s m ⌝ }
     ensures { λ r. ⌜ r ≡ plusAt m s ⌝ }
 {
-    s.e - s.y < m as i64
+    s.angle - s.sine < m as i64
 }
 
 // R35: the state before the first rotation.
@@ -109,19 +107,18 @@ fn start(a: u64) -> State
     ensures { λ r. ⌜ r ≡ start a ⌝ }
 {
     State {
-        e: 0,
-        x: (a * G / ONE) as i64,
-        y: 0,
+        angle: 0,
+        cosine: (a * G / grid::ONE) as i64,
+        sine: 0,
     }
 }
 
-// All rotations of an orbit.
-pub fn rotate(o: Orbit) -> State
-    requires { ⌜ OnGrid o ⌝ }
-    ensures { λ r. ⌜ r ≡ rotated o ⌝ }
+// All rotations of M and A.
+pub fn rotate(m: u64, a: u64) -> State
+    requires { ⌜ m ≤ H-units ⌝ ∗ ⌜ a ≤ one ⌝ }
+    ensures { λ r. ⌜ r ≡ rotated m a ⌝ }
 {
-    let m = o.m;
-    let mut s = start(o.a);
+    let mut s = start(a);
     let mut i = 0;
     while i < ROTATIONS {
         let plus = sign(s, m);
@@ -132,12 +129,12 @@ pub fn rotate(o: Orbit) -> State
 }
 
 // R37: E, or the nearer of 0 and T where it lies outside.
-pub fn bring(e: i64) -> u64
-    ensures { λ r. ⌜ r ≡ brought e ⌝ }
+pub fn bring(angle: i64) -> u64
+    ensures { λ r. ⌜ r ≡ brought angle ⌝ }
 {
-    if e < 0 {
+    if angle < 0 {
         return 0;
     }
-    let n = e as u64;
-    if n <= T { n } else { T }
+    let n = angle as u64;
+    if n <= grid::T { n } else { grid::T }
 }

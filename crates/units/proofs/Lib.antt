@@ -1,5 +1,6 @@
-pub mod Enum
 pub mod Value
 pub mod Scaled
-pub mod Estimate
-pub mod Laws
+pub mod Range
+pub mod CodeTests
+pub mod Made
+pub mod Rounding

@@ -1,16 +1,15 @@
--- Multiplication of a double by a power of two is exact as long as nothing overflows, from subnormals too; and so is a whole
--- number of no more digits than the format keeps. Assumes nothing.
+-- Multiplication of a double by a power of two is exact as long as nothing overflows, from subnormals too. Assumes nothing.
 use mathlib.Core.Path.{_≡_, sym, ap, _∙_}
 use mathlib.Core.Bool.{Bool, true, false, _&&_}
 use Prim.Native.Nat.{ℕ, zero, suc, _+_, _-_, _*_, _%_, _^_, _≤_, _<_, suc-le-suc}
-use native.Mathlib.Nat.{lt-of-not-le, not-le-of-lt, lt-of-lt-of-le, mul-lt-mul-of-pos-right, lt-of-mul-lt-mul-right, one-mul, mul-one}
+use native.Mathlib.Nat.{lt-of-not-le, not-le-of-lt, mul-lt-mul-of-pos-right, lt-of-mul-lt-mul-right, one-mul, mul-one}
 use native.Mathlib.Omega.{arith}
 use lib.Dec.{T, leb, ltb, eqb, leb→le, ltb→lt}
 use lib.IntN.{ℤ, pos, negsuc}
-use lib.Pow.{pow-add, pow-pos, pow-lt, pow-mono}
+use lib.Pow.{pow-add, pow-pos, pow-lt}
 use lib.Ieee.{fin, Format, prec, emax, low, up, down, round, fits}
 use lib.Ieee.Digits.{back}
-use lib.Ieee.Fits.{down-pos, reach}
+use lib.Ieee.Fits.{down-pos}
 use lib.Ieee.Exact.{HasValue, round-exact}
 
 below-low : (f : Format) (k : ℕ) → 2 ^ suc k ≤ 2 ^ low f → suc k ≤ low f
@@ -57,10 +56,3 @@ times-power f s (suc m) e t fit h =
     round-exact f s (suc m * up e * 2 ^ t) (down e) (suc m) (g .0 + t) (down-pos e) (k .0)
     (rw (pow-add 2 (g .0) t, pow-add 2 (low f) (suc (emax f))) (no-overflow (suc m) (up e) (2 ^ t) (2 ^ low f) (2 ^ (g .0)) (down e) (2 ^ suc (emax f)) (pow-pos (low f)) (g .1) h))
     (rw (pow-add 2 (g .0) t) (regroup (suc m) (up e) (2 ^ t) (2 ^ low f) (2 ^ (g .0)) (down e) (g .1)))
-
-pub whole-exact : (f : Format) (n : ℕ) → n < 2 ^ prec f → HasValue (round f false n 1) false n 1
-whole-exact f n h =
-    round-exact f false n 1 n (low f) (pow-pos 0) h
-    (rw (pow-add 2 (low f) (suc (emax f)))
-    (let k = mul-lt-mul-of-pos-right (lt-of-lt-of-le h (pow-mono (reach f))) (pow-pos (low f)) in omega arith))
-    (omega arith)

@@ -26,5 +26,5 @@ pub record Rounded (a d f c : ℕ) : Type 0 where
   pub ceiling-most : c * d < a + d
   pub ordered : f ≤ c
   pub next : c ≤ f + 1
-  pub whole : c ≡ f ↔ a ≡ f * d
+  pub exactly : c ≡ f ↔ a ≡ f * d
   pub limit : c ≤ T-units

@@ -1,37 +1,49 @@
-// From a double to whole units of 2^-28 radian: the floor and the ceiling.
+// From a double to whole units of 2^-28: the floor and the ceiling.
 ghost use mathlib.Core.Path.{_≡_};
-ghost use Rattle.units.specs.Units.{unitsOf};
+ghost use Rattle.units.specs.Units.{codedUnits};
 use grid::codes;
 
-// An estimate in units: f rounded down, c rounded up.
+// A double in units, rounded down and rounded up.
 pub struct Units {
-    pub f: u64,
-    pub c: u64,
+    pub floor: u64,
+    pub ceiling: u64,
 }
 
-pub enum UnitsOr {
-    Made(Units),
-    Refused(u32),
+// A code, and with code 0 the units.
+pub struct CodedUnits {
+    pub code: u32,
+    pub units: Units,
 }
 
 // 2^28, the units in one radian.
-const ONE: f64 = 268435456.0;
+const RADIAN: f64 = 268435456.0;
 
-// T units in radians: exactly T / 2^28.
-const LIMIT: f64 = 3.1415928900241851806640625;
-
-// The estimate in radians is tested before it is multiplied, so that the product is exact. A NaN fails every test, and
-// -0.0 passes as 0 does.
-pub fn in_units(estimate: f64) -> UnitsOr
-    ensures { λ r. ⌜ r ≡ unitsOf estimate ⌝ }
+// The value in units where it is 0 to the limit, else the code. A NaN fails every test, and -0.0 passes as 0 does. The
+// product is exact, or it overflows to an infinity, which no limit reaches.
+pub fn in_units(value: f64, limit: u32, code: u32) -> CodedUnits
+    ensures { λ r. ⌜ r ≡ codedUnits value limit code ⌝ }
 {
-    if estimate >= 0.0 {
-        if estimate <= LIMIT {
-            let product = estimate * ONE;
-            let f = std::num::truncating_f64_to_u64(product);
-            let c = if (f as f64) < product { f + 1 } else { f };
-            return UnitsOr::Made(Units { f, c });
+    if value >= 0.0 {
+        let product = value * RADIAN;
+        if product <= limit as f64 {
+            let floor = std::num::truncating_f64_to_u64(product);
+            let ceiling = if (floor as f64) < product {
+                floor + 1
+            } else {
+                floor
+            };
+            let units = Units { floor, ceiling };
+            return CodedUnits {
+                code: codes::DONE,
+                units,
+            };
         }
     }
-    UnitsOr::Refused(codes::BAD_ESTIMATE)
+    CodedUnits {
+        code,
+        units: Units {
+            floor: 0,
+            ceiling: 0,
+        },
+    }
 }

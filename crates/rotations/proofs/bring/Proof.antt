@@ -1,29 +1,53 @@
 -- `rotations::bring` meets its contract: the tests that led to each return are the definition's. Assumes nothing.
+use mathlib.Core.Path.{_≡_, refl}
+use mathlib.Core.Bool.{true, false}
+use Prim.Native.Nat.{ℕ, _≤_, _<_}
+use native.Mathlib.Omega.{arith}
+use native.Mathlib.Nat.{min-eq-left, min-eq-right, le-of-lt}
+use borrow.Author.Tests.{ltb-true}
 use lib.Dec.{T}
-use lib.Signed.{nonNeg}
+use lib.IntN.{ℤ, pos, negsuc, natAbs}
+use lib.Signed.{ltZ, nonNeg}
 use mir.Facts.{toZ-ofZ, fits-natAbs}
-use Rattle.rotations.proofs.Ranges.{below-zero, not-below, up-to-T, past-T}
+use Rattle.grid.specs.Grid.{T-units}
+use Rattle.rotations.specs.Rotate.{brought}
 use Rattle.rotations.proofs.bring.Statement.{statement}
 use Rattle.rotations.proofs.bring.Tie as tie
 
-returns : tie.Need-returns
-returns c = below-zero (c .before .args .e) (rw (toZ-ofZ (c .before .fits .e)) at (c .if1 .taken))
+below-zero : (z : ℤ) → ltZ z (pos 0) ≡ true → 0 ≡ brought z
+below-zero (pos n) e = absurd (let h = ltb-true n 0 e in let k : ⊥ = omega arith in k)
+below-zero (negsuc n) e = refl
 
-above : (c : tie.Else1) → T (nonNeg (c .before .args .e))
-above c = not-below (c .before .args .e) (rw (toZ-ofZ (c .before .fits .e)) at (c .if1 .left))
+not-below : (z : ℤ) → ltZ z (pos 0) ≡ false → T (nonNeg z)
+not-below (pos n) e = tt
+not-below (negsuc n) e = let z : _≡_ {A = ℕ} 0 1 = cc in let k : ⊥ = omega arith in k
+
+up-to-T : (z : ℤ) → T (nonNeg z) → natAbs z ≤ T-units → natAbs z ≡ brought z
+up-to-T (pos n) t h = simp (min-eq-left h)
+up-to-T (negsuc n) t h = absurd t
+
+past-T : (z : ℤ) → T (nonNeg z) → T-units < natAbs z → T-units ≡ brought z
+past-T (pos n) t h = simp (min-eq-right (le-of-lt h))
+past-T (negsuc n) t h = absurd t
+
+returns : tie.Need-returns
+returns c = below-zero (c .before .args .angle) (rw (toZ-ofZ (c .before .fits .angle)) at (c .if1 .taken))
+
+above : (c : tie.Else1) → T (nonNeg (c .before .args .angle))
+above c = not-below (c .before .args .angle) (rw (toZ-ofZ (c .before .fits .angle)) at (c .if1 .left))
 
 cast-n : tie.Need-cast-n
-cast-n c = rw (toZ-ofZ (c .before .fits .e)) (above c, fits-natAbs tt (c .before .fits .e))
+cast-n c = rw (toZ-ofZ (c .before .fits .angle)) (above c, fits-natAbs tt (c .before .fits .angle))
 
 returns-2 : tie.Need-returns-2
 returns-2 c =
-    let f = toZ-ofZ (c .before .before .fits .e) in
-    rw f (up-to-T (c .before .before .args .e) (above (c .before)) (rw f at (c .if2 .taken)))
+    let f = toZ-ofZ (c .before .before .fits .angle) in
+    rw f (up-to-T (c .before .before .args .angle) (above (c .before)) (rw f at (c .if2 .taken)))
 
 returns-3 : tie.Need-returns-3
 returns-3 c =
-    let f = toZ-ofZ (c .before .before .fits .e) in
-    past-T (c .before .before .args .e) (above (c .before)) (rw f at (c .if2 .left))
+    let f = toZ-ofZ (c .before .before .fits .angle) in
+    past-T (c .before .before .args .angle) (above (c .before)) (rw f at (c .if2 .left))
 
 pub bring-spec : {M : Type 1} → statement M
 bring-spec = tie.close (tie.spec returns cast-n returns-2 returns-3)

@@ -3,23 +3,17 @@ use borrow.Author.Needs.{needs}
 use mir.Syntax.{w64}
 use mir.Facts.{toZ-pos}
 use Rattle.rotations.specs.Table.{table, entry}
-use Rattle.rotations.proofs.Size.{small-entry, small-fits}
+use Rattle.rotations.proofs.CodeSize.{roomy-entry, roomy-fits}
 use Rattle.rotations.proofs.entry.Statement.{statement}
 use Rattle.rotations.proofs.entry.Tie as tie
 
-mul-result : tie.Need-mul-result
-mul-result c = search needs
-
-array-read-result : tie.Need-array-read-result
-array-read-result c = search needs
-
 cast-result : tie.Need-cast-result
 unfolding table entry
-cast-result c = small-fits (small-entry (c .args .k) (c .pre))
+cast-result c = roomy-fits (roomy-entry (c .args .k) (c .pre))
 
 returns : tie.Need-returns
 unfolding table entry
-returns c = toZ-pos w64 (small-fits (small-entry (c .args .k) (c .pre)) .sfits)
+returns c = toZ-pos w64 (roomy-fits (roomy-entry (c .args .k) (c .pre)) .sfits)
 
 pub entry-spec : {M : Type 1} → statement M
-entry-spec = tie.close (tie.spec mul-result array-read-result cast-result returns)
+entry-spec = tie.close (tie.spec (λ c. search needs) (λ c. search needs) cast-result returns)

@@ -2,19 +2,19 @@
 use mathlib.Core.Path.{_∙_}
 use lib.IntN.{+ℤ-idl}
 use mir.Facts.{toZ-ofZ}
-use Rattle.rotations.proofs.Size.{nothing, small-neg, sum-fits, read}
+use Rattle.rotations.proofs.CodeSize.{nothing, roomy-neg, sum-fits, read}
 use Rattle.rotations.proofs.signed.Statement.{statement}
 use Rattle.rotations.proofs.signed.Tie as tie
 
 sub-result : tie.Need-sub-result
-sub-result c = rw (read (c .before .pre)) (sum-fits nothing (small-neg (c .before .pre)))
+sub-result c = rw (read (c .before .pre)) (sum-fits nothing (roomy-neg (c .before .pre)))
 
 returns : tie.Need-returns
 returns c = rw (c .if1 .taken) (read (c .before .pre))
 
 returns-2 : tie.Need-returns-2
 returns-2 c =
-    rw (c .if1 .left, read (c .before .pre)) (toZ-ofZ (sum-fits nothing (small-neg (c .before .pre))) ∙ +ℤ-idl _)
+    rw (c .if1 .left, read (c .before .pre)) (toZ-ofZ (sum-fits nothing (roomy-neg (c .before .pre))) ∙ +ℤ-idl _)
 
 pub signed-spec : {M : Type 1} → statement M
 signed-spec = tie.close (tie.spec sub-result returns returns-2)

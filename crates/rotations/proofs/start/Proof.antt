@@ -9,15 +9,9 @@ use Rattle.rotations.specs.Table.{G}
 use Rattle.rotations.proofs.start.Statement.{statement}
 use Rattle.rotations.proofs.start.Tie as tie
 
-mul-t2 : tie.Need-mul-t2
-mul-t2 c = search needs
-
-cast-t4 : tie.Need-cast-t4
-cast-t4 c = search needs
-
 returns : tie.Need-returns
 unfolding start G
 returns c = rw (toZ-pos w64 {n = c .args .a * 98987219 / 268435456} (omega arith))
 
 pub start-spec : {M : Type 1} → statement M
-start-spec = tie.close (tie.spec mul-t2 cast-t4 returns)
+start-spec = tie.close (tie.spec (λ c. search needs) (λ c. search needs) returns)
