@@ -9,7 +9,7 @@ use native.Mathlib.Omega.{arith}
 use borrow.Author.Tests.{ne-eqb, eqb-true, eqb-false}
 use lib.Dec.{T, T-not, ltb, eqb, ltb→lt}
 use lib.Ieee.Fits.{eq→eqb}
-use Rattle.whole.proofs.Table.{both-parts}
+use Rattle.whole.proofs.Bools.{both-parts}
 use Rattle.grid.specs.Codes.{Code, Check, number, done, limit-check, firstCode, earlier, checked, Passed}
 use Rattle.grid.specs.Refuses.{FirstFails, all}
 
@@ -92,3 +92,7 @@ only-last k (d ∷ cs) c t f =
       | inl p ↦ absurd (T-not (eqb (number (d .code)) k) other (eq→eqb (p .1)))
       | inr p ↦ let r = only-last k cs c others (p .1) in ((p .0, r .0), r .1)
     ]
+
+pub join : (cs ds : List Check) → Passed cs → Passed ds → Passed (cs ++ ds)
+join [] ds p q = q
+join (c ∷ cs) ds p q = (p .0, join cs ds (p .1) q)

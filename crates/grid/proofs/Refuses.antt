@@ -6,7 +6,7 @@ use mathlib.Core.Logic.{_⊎_, inl, inr, _↔_}
 use Prim.Native.Nat.{ℕ, _<_}
 use native.Mathlib.Omega.{arith}
 use lib.Dec.{T, ltb, ltb→lt}
-use Rattle.whole.proofs.Table.{both-parts}
+use Rattle.whole.proofs.Bools.{both-parts}
 use Rattle.grid.specs.Codes.{Code, Check, number, firstCode, checked, Passed}
 use Rattle.grid.specs.Refuses.{FirstFails, Refuses}
 use Rattle.grid.proofs.FirstCode.{coded, CodeOf, goes, stops, passed}

@@ -1,4 +1,3 @@
-pub mod Checks
-pub mod Laws
-pub mod Entry
-pub mod Small
+pub mod Kept
+pub mod Answered
+pub mod CodeAnswers

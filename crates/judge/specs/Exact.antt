@@ -1,11 +1,11 @@
 -- What a verdict says in exact fractions, for the promises: R19 at the ends that R43 and R44 test.
 use Prim.Native.Nat.{ℕ, _+_, _-_, _≤_}
 use Rattle.grid.specs.Grid.{T-units}
-use Rattle.ends.specs.declared.Orbit.{Orbit}
+use Rattle.orbit.specs.Cell.{Orbit}
 use Rattle.ends.specs.Exact.{LowerExact, UpperExact}
 use Rattle.units.specs.declared.Units.{Units}
 use Rattle.judge.specs.Verdict.{lowEnd, highEnd}
-use Rattle.judge.specs.declared.Claim.{Claim}
+use Rattle.judge.specs.Judge.{Claim}
 
 -- R19, R43: the exact inequalities at p and q
 pub record ConfirmedExact (o : Orbit) (u : Units) (n : ℕ) : Type 0 where
@@ -14,14 +14,14 @@ pub record ConfirmedExact (o : Orbit) (u : Units) (n : ℕ) : Type 0 where
 
 -- R19, R44: the exact inequality at the refuting end above q
 pub record AboveExact (o : Orbit) (u : Units) (n : ℕ) : Type 0 where
-  pub within : u .f + n + 1 ≤ T-units
-  pub lower : LowerExact o (u .f + n + 1)
+  pub within : u .floor + n + 1 ≤ T-units
+  pub lower : LowerExact o (u .floor + n + 1)
 
 -- R19, R44: the exact inequality at the refuting end below p
 pub record BelowExact (o : Orbit) (u : Units) (n : ℕ) : Type 0 where
-  pub within : n + 1 ≤ u .c
-  pub upper : UpperExact o (u .c - (n + 1))
+  pub within : n + 1 ≤ u .ceiling
+  pub upper : UpperExact o (u .ceiling - (n + 1))
 
 -- R47: the same claim at another depth
 abbrev pub atDepth : Claim → ℕ → Claim
-atDepth k e = record { m = k .m; a = k .a; estimate = k .estimate; n = k .n; depth = e }
+atDepth k d = record { given = k .given; estimate = k .estimate; n = k .n; depth = d }

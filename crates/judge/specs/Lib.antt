@@ -1,4 +1,4 @@
 pub mod Verdict
 pub mod Judge
 pub mod Exact
-pub mod Fair
+pub mod Limits

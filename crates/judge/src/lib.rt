@@ -1,25 +1,13 @@
 // The judge of a claim: does Kepler's equation have its root within N units of an estimate?
 ghost use mathlib.Core.Path.{_≡_};
-ghost use Rattle.judge.specs.Verdict.{confirmed, lowerAbove, upperBelow, verdictOf, verdictNumber};
-ghost use Rattle.judge.specs.Judge.{caseOf, judgeRule};
-ghost use Rattle.judge.specs.Fair.{Tested};
-use ends::Orbit;
-use ends::OrbitOr;
+ghost use Rattle.orbit.specs.Given.{grid};
+ghost use Rattle.judge.specs.Verdict.{confirmed, lowerAbove, upperBelow, verdictNumber};
+ghost use Rattle.judge.specs.Judge.{caseVerdict, judgeRule};
+ghost use Rattle.judge.specs.Limits.{CaseIn};
 use grid::Angle;
-use grid::Depth;
-use grid::DepthOr;
 use grid::codes;
+use orbit::Problem;
 use units::Units;
-use units::UnitsOr;
-
-// M, A, an estimate of E in radians, the tolerance N in units, and the depth.
-pub struct Claim {
-    pub m: u32,
-    pub a: u32,
-    pub estimate: f64,
-    pub n: u32,
-    pub depth: u32,
-}
 
 pub enum Verdict {
     Confirmed,
@@ -37,8 +25,6 @@ pub struct Judged {
 // The largest tolerance, in units.
 pub const N_LIMIT: u32 = 65_535;
 
-const T: u64 = Angle::T as u64;
-
 pub fn number_of(v: Verdict) -> u32
     ensures { λ r. ⌜ r ≡ verdictNumber v ⌝ }
 {
@@ -49,114 +35,102 @@ pub fn number_of(v: Verdict) -> u32
     }
 }
 
+// A claim whose numbers are all within their limits.
+pub struct Case {
+    pub problem: Problem,
+    pub units: Units,
+    pub tolerance: u64,
+}
+
 // R43, of the reach p to q of R42.
-fn is_confirmed(o: Orbit, u: Units, n: u64, d: Depth) -> bool
-    requires { ⌜ Tested o u n d ⌝ }
-    ensures { λ r. ⌜ r ≡ confirmed o (d .pairs) u n ⌝ }
+fn is_confirmed(k: Case) -> bool
+    requires { ⌜ CaseIn k ⌝ }
+    ensures { λ r. ⌜ r ≡ confirmed (k .problem .cell) (k .problem .depth .pairs) (k .units) (k .tolerance) ⌝ }
 {
-    let p = grid::lowered(u.c, n);
-    let q = grid::raised(u.f, n);
-    if ends::lower(o, Angle { units: p }, d) {
-        ends::upper(o, Angle { units: q }, d)
+    let problem = k.problem;
+    let u = k.units;
+    let p = grid::step_down(u.ceiling, k.tolerance);
+    let q = grid::step_up(u.floor, k.tolerance);
+    if ends::lower(problem, Angle { units: p }) {
+        ends::upper(problem, Angle { units: q })
     } else {
         false
     }
 }
 
 // R44: is there an accepted lower end one unit above q?
-fn lower_above(o: Orbit, u: Units, n: u64, d: Depth) -> bool
-    requires { ⌜ Tested o u n d ⌝ }
-    ensures { λ r. ⌜ r ≡ lowerAbove o (d .pairs) u n ⌝ }
+fn lower_above(k: Case) -> bool
+    requires { ⌜ CaseIn k ⌝ }
+    ensures { λ r. ⌜ r ≡ lowerAbove (k .problem .cell) (k .problem .depth .pairs) (k .units) (k .tolerance) ⌝ }
 {
-    let units = u.f + n + 1;
-    if units <= T {
-        ends::lower(o, Angle { units }, d)
+    let problem = k.problem;
+    let u = k.units;
+    let units = u.floor + k.tolerance + 1;
+    if units <= grid::T {
+        ends::lower(problem, Angle { units })
     } else {
         false
     }
 }
 
 // R44: is there an accepted upper end one unit below p?
-fn upper_below(o: Orbit, u: Units, n: u64, d: Depth) -> bool
-    requires { ⌜ Tested o u n d ⌝ }
-    ensures { λ r. ⌜ r ≡ upperBelow o (d .pairs) u n ⌝ }
+fn upper_below(k: Case) -> bool
+    requires { ⌜ CaseIn k ⌝ }
+    ensures { λ r. ⌜ r ≡ upperBelow (k .problem .cell) (k .problem .depth .pairs) (k .units) (k .tolerance) ⌝ }
 {
-    let c = u.c;
-    let least = n + 1;
-    if least <= c {
-        ends::upper(o, Angle { units: c - least }, d)
+    let problem = k.problem;
+    let u = k.units;
+    let ceiling = u.ceiling;
+    let least = k.tolerance + 1;
+    if least <= ceiling {
+        ends::upper(
+            problem,
+            Angle {
+                units: ceiling - least,
+            },
+        )
     } else {
         false
     }
 }
 
 // The verdict, with no end tested that it doesn't need.
-fn decide(o: Orbit, u: Units, n: u64, d: Depth) -> Verdict
-    requires { ⌜ Tested o u n d ⌝ }
-    ensures { λ r. ⌜ r ≡ verdictOf o (d .pairs) u n ⌝ }
+fn decide(k: Case) -> Verdict
+    requires { ⌜ CaseIn k ⌝ }
+    ensures { λ r. ⌜ r ≡ caseVerdict k ⌝ }
 {
-    if is_confirmed(o, u, n, d) {
+    if is_confirmed(k) {
         return Verdict::Confirmed;
     }
-    if lower_above(o, u, n, d) {
+    if lower_above(k) {
         return Verdict::Refuted;
     }
-    if upper_below(o, u, n, d) {
+    if upper_below(k) {
         return Verdict::Refuted;
     }
     Verdict::Undecided
 }
 
-// A claim whose numbers are all within their limits.
-pub struct Case {
-    pub o: Orbit,
-    pub u: Units,
-    pub n: u64,
-    pub d: Depth,
-}
-
-pub enum CaseOr {
-    Made(Case),
-    Refused(u32),
-}
-
-// The checks in their order: codes 1, 2, 3, 4, then 5.
-fn checked(claim: Claim) -> CaseOr
-    ensures { λ r. ⌜ r ≡ caseOf claim ⌝ }
-{
-    let n = claim.n;
-    match Orbit::new(claim.m, claim.a) {
-        OrbitOr::Refused(code) => CaseOr::Refused(code),
-        OrbitOr::Made(o) => match Depth::new(claim.depth) {
-            DepthOr::Refused(code) => CaseOr::Refused(code),
-            DepthOr::Made(d) => match units::in_units(claim.estimate) {
-                UnitsOr::Refused(code) => CaseOr::Refused(code),
-                UnitsOr::Made(u) => {
-                    if n <= N_LIMIT {
-                        CaseOr::Made(Case {
-                            o,
-                            u,
-                            n: n as u64,
-                            d,
-                        })
-                    } else {
-                        CaseOr::Refused(codes::BAD_N)
-                    }
-                }
-            },
-        },
-    }
-}
-
 // The verdict on a claim, or the code of what is out of limits: 1, 2, 3, 4, then 5.
-pub fn judge(claim: Claim) -> Judged
-    ensures { λ r. ⌜ r ≡ judgeRule claim ⌝ }
+pub fn judge(m: u32, a: u32, estimate: f64, n: u32, depth: u32) -> Judged
+    ensures { λ r. ⌜ r ≡ judgeRule (record { given = grid m a; estimate = estimate; n = n; depth = depth }) ⌝ }
 {
-    match checked(claim) {
-        CaseOr::Refused(code) => Judged { code, verdict: 0 },
-        CaseOr::Made(k) => Judged {
-            code: codes::DONE,
-            verdict: number_of(decide(k.o, k.u, k.n, k.d)),
-        },
+    let posed = Problem::new(m, a, depth);
+    let made = units::in_units(estimate, Angle::T, codes::BAD_ESTIMATE);
+    let n_code = codes::limited(n, N_LIMIT, codes::BAD_N);
+    let code = codes::earlier(posed.code, codes::earlier(made.code, n_code));
+    if code != codes::DONE {
+        return Judged { code, verdict: 0 };
+    }
+    let problem = posed.problem;
+    let units = made.units;
+    let k = Case {
+        problem,
+        units,
+        tolerance: n as u64,
+    };
+    Judged {
+        code,
+        verdict: number_of(decide(k)),
     }
 }

@@ -11,11 +11,11 @@ use Rattle.grid.proofs.FirstCode.{coded, split}
 use Rattle.grid.proofs.Refuses.{Makes, makes}
 use Rattle.grid.proofs.Fits.{limit-fits, depth-fits}
 use Rattle.orbit.specs.Cell.{gridCell, CellIn}
-use Rattle.orbit.specs.Given.{Given, grid, checksOf, cellOf, cellWith, problemChecks, problemAt, problemWith, codedProblem, ProblemIn}
+use Rattle.orbit.specs.Given.{Given, grid, checksOf, cellOf, cellWith, codedCell, problemChecks, problemAt, problemWith, codedProblem, ProblemIn}
 use Rattle.orbit.specs.declared.CodedCell.{CodedCell}
 use Rattle.orbit.specs.declared.CodedProblem.{CodedProblem}
 
-checks-coded : (g : Given) → T (coded (checksOf g))
+pub checks-coded : (g : Given) → T (coded (checksOf g))
 checks-coded (grid m a) = tt
 
 pub problem-coded : (g : Given) (d : ℕ) → T (coded (problemChecks g d))
@@ -41,7 +41,13 @@ problem-in g d p =
     let (cell, depth) = split (checksOf g) (depth-check d ∷ []) p in
     record { cell = cell-in g cell; depth = depth-fits d (depth .0) }
 
--- with code 0 a made problem is the one given, within its limits
+-- with code 0 what was made is what was given, within its limits
+pub cell-made : (g : Given) (r : CodedCell) → r ≡ codedCell g → r .code ≡ 0 → (r .cell ≡ cellOf g) × CellIn (r .cell)
+cell-made g r e z =
+    let m = cells g in
+    let v = ap (λ (t : CodedCell). t .cell) (m .value-is r e z) in
+    (v, subst CellIn (sym v) (cell-in g (m .passed-by _ (m .code-is r e) z)))
+
 pub problem-made : (g : Given) (d : ℕ) (r : CodedProblem) → r ≡ codedProblem g d → r .code ≡ 0
     → (r .problem ≡ problemAt (cellOf g) d) × ProblemIn (r .problem)
 problem-made g d r e z =

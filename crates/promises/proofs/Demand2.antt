@@ -9,7 +9,7 @@ use native.Mathlib.Numerals.{add-one}
 use lib.Dec.{T}
 use lib.IntN.{pos, _+ℤ_}
 use lib.Signed.{_≤ℤ_}
-use Rattle.whole.proofs.Table.{both-parts}
+use Rattle.whole.proofs.Bools.{both-parts}
 use Rattle.grid.specs.Grid.{one, H-units, T-units, depths}
 use Rattle.grid.proofs.Made.{m-fits, a-fits, depth-fits, x-fits}
 use Rattle.series.specs.Entry.{sineRule}

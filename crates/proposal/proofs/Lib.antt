@@ -1,2 +1,3 @@
 pub mod Certificate
-pub mod First
+pub mod Smallest
+pub mod Proposed

@@ -4,7 +4,7 @@ use mathlib.Core.Bool.{Bool, not, cond, _&&_}
 use lib.Dec.{T}
 use Rattle.grid.specs.Grid.{T-units, depths}
 use Rattle.ends.specs.Ends.{lowerEnd, upperEnd}
-use Rattle.ends.specs.declared.Orbit.{Orbit}
+use Rattle.orbit.specs.declared.Cell.{Cell}
 
 -- R38: the end below E: a difference of naturals is 0 where it would fall below
 abbrev pub lowAt : ℕ → ℕ → ℕ
@@ -15,8 +15,8 @@ abbrev pub highAt : ℕ → ℕ → ℕ
 highAt E j = min (E + 2 ^ j) T-units
 
 -- R38: whether both ends are accepted at depth 5
-unfoldable pub certifies : Orbit → ℕ → ℕ → Bool
-certifies o E j = lowerEnd o depths (lowAt E j) && upperEnd o depths (highAt E j)
+unfoldable pub certifies : Cell → ℕ → ℕ → Bool
+certifies c E j = lowerEnd c depths (lowAt E j) && upperEnd c depths (highAt E j)
 
 -- R38: the first of the n numbers from i on that passes a test, and i + n where none does
 unfoldable pub firstFrom : (ℕ → Bool) → ℕ → ℕ → ℕ
@@ -28,8 +28,8 @@ abbrev pub widths : ℕ
 widths = 31
 
 -- R38: the first j that certifies
-unfoldable pub certificate : Orbit → ℕ → ℕ
-certificate o E = firstFrom (certifies o E) 0 widths
+unfoldable pub certificate : Cell → ℕ → ℕ
+certificate c E = firstFrom (certifies c E) 0 widths
 
 -- R38: j is the smallest number below n that passes a test
 pub record Smallest (test : ℕ → Bool) (n j : ℕ) : Type 0 where

@@ -1,14 +1,15 @@
 // The proposal: where the rotations end, and the certificate that says how near the root is.
 ghost use mathlib.Core.Path.{_≡_};
 ghost use Prim.Native.Nat.{_^_, _<_};
+ghost use Rattle.orbit.specs.Given.{grid};
 ghost use Rattle.proposal.specs.Certify.{widths, certifies, certificate};
 ghost use Rattle.proposal.specs.Propose.{concluded, proposalRule};
 ghost use Rattle.proposal.specs.Ready.{Triable, Concludable};
-use ends::Orbit;
-use ends::OrbitOr;
 use grid::Angle;
 use grid::Depth;
 use grid::codes;
+use orbit::Cell;
+use orbit::Problem;
 use rotations::State;
 
 // The entry's answer. The angle is E; y is near e sin E, and x near e cos E.
@@ -28,35 +29,36 @@ fn width_of(j: u32) -> u64
     1u64 << j
 }
 
-fn holds(o: Orbit, e: u64, j: u32) -> bool
-    requires { ⌜ Triable o e j ⌝ }
-    ensures { λ r. ⌜ r ≡ certifies o e j ⌝ }
+fn holds(cell: Cell, angle: u64, j: u32) -> bool
+    requires { ⌜ Triable cell angle j ⌝ }
+    ensures { λ r. ⌜ r ≡ certifies cell angle j ⌝ }
 {
-    let w = width_of(j);
+    let width = width_of(j);
     let low = Angle {
-        units: grid::lowered(e, w),
+        units: grid::step_down(angle, width),
     };
     let high = Angle {
-        units: grid::raised(e, w),
+        units: grid::step_up(angle, width),
     };
-    let d = Depth {
+    let depth = Depth {
         pairs: Depth::GREATEST,
     };
-    if ends::lower(o, low, d) {
-        ends::upper(o, high, d)
+    let problem = Problem { cell, depth };
+    if ends::lower(problem, low) {
+        ends::upper(problem, high)
     } else {
         false
     }
 }
 
 // R38: the smallest width 2^j about E whose two ends are accepted.
-fn certify(o: Orbit, e: u64) -> u32
-    requires { ⌜ Triable o e 0 ⌝ }
-    ensures { λ r. ⌜ r ≡ certificate o e ⌝ }
+fn certify(cell: Cell, angle: u64) -> u32
+    requires { ⌜ Triable cell angle 0 ⌝ }
+    ensures { λ r. ⌜ r ≡ certificate cell angle ⌝ }
 {
     let mut i: u32 = 0;
     let j = loop {
-        if holds(o, e, i) {
+        if holds(cell, angle, i) {
             break i;
         }
         i += 1;
@@ -65,17 +67,17 @@ fn certify(o: Orbit, e: u64) -> u32
 }
 
 // A final state, with E brought into range and certified.
-fn conclude(o: Orbit, s: State) -> Proposal
-    requires { ⌜ Concludable o s ⌝ }
-    ensures { λ r. ⌜ r ≡ concluded o s ⌝ }
+fn conclude(cell: Cell, s: State) -> Proposal
+    requires { ⌜ Concludable cell s ⌝ }
+    ensures { λ r. ⌜ r ≡ concluded cell s ⌝ }
 {
-    let e = rotations::bring(s.e);
-    let j = certify(o, e);
+    let angle = rotations::bring(s.angle);
+    let j = certify(cell, angle);
     Proposal {
         code: codes::DONE,
-        angle: e as u32,
-        y: s.y,
-        x: s.x,
+        angle: angle as u32,
+        y: s.sine,
+        x: s.cosine,
         j,
     }
 }
@@ -85,16 +87,20 @@ fn conclude(o: Orbit, s: State) -> Proposal
 // max(E - 2^j, 0) and min(E + 2^j, T) are accepted at depth 5 (R38). How near E is, j alone says (R39).
 // Code: 0 done; 1 m above H; 2 a above 2^28. With code 1 or 2 all other numbers are 0.
 pub fn propose(m: u32, a: u32) -> Proposal
-    ensures { λ r. ⌜ r ≡ proposalRule m a ⌝ }
+    ensures { λ r. ⌜ r ≡ proposalRule (grid m a) ⌝ }
 {
-    match Orbit::new(m, a) {
-        OrbitOr::Refused(code) => Proposal {
-            code,
+    let posed = Cell::new(m, a);
+    if posed.code != codes::DONE {
+        return Proposal {
+            code: posed.code,
             angle: 0,
             y: 0,
             x: 0,
             j: 0,
-        },
-        OrbitOr::Made(o) => conclude(o, rotations::rotate(o)),
+        };
     }
+    let cell = posed.cell;
+    let mean = cell.m;
+    let shape = cell.a;
+    conclude(cell, rotations::rotate(mean.down, shape.down))
 }

@@ -8,7 +8,8 @@ use lib.Dec.{T, lit≤, lit<}
 use lib.IntN.{pos, _*ℤ_}
 use lib.Signed.{leZ, ltZ, leZ-yes, ltZ-yes}
 use Rattle.grid.specs.Grid.{one}
-use Rattle.whole.proofs.Table.{both-parts, at}
+use Rattle.whole.proofs.Bools.{both-parts}
+use Rattle.whole.proofs.Table.{at}
 use Rattle.rotations.specs.Atan.{term, atan, atanSum}
 use Rattle.rotations.specs.Table.{entries, table, entry, lastBelow, lastAbove, RoundedDown, G, product, Scaled}
 

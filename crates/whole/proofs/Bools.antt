@@ -1,7 +1,7 @@
 -- Tests as facts: when two tests are one, when a comparison is a test, and branches as a conjunction. Assumes nothing.
 use mathlib.Core.Path.{_≡_, refl, sym, ap, subst, _∙_}
-use mathlib.Core.Bool.{Bool, true, false, _&&_}
-use mathlib.Core.Logic.{_↔_}
+use mathlib.Core.Bool.{Bool, true, false, _&&_, _||_}
+use mathlib.Core.Logic.{_⊎_, inl, inr, _↔_}
 use Prim.Native.Nat.{ℕ, _≤_}
 use lib.Dec.{T, leb, leb→le, le→leb}
 
@@ -34,3 +34,20 @@ then-and a b p q = q ∙ sym (ap (λ (t : Bool). t && b) p)
 -- the first test failed
 pub else-and : (a b : Bool) → a ≡ false → false ≡ (a && b)
 else-and a b p = sym (ap (λ (t : Bool). t && b) p)
+
+-- both tests, and either
+pub both-parts : (p q : Bool) → T (p && q) → T p × T q
+both-parts true q t = (tt, t)
+both-parts false q t = absurd t
+
+pub both : (p q : Bool) → T p → T q → T (p && q)
+both true q s t = t
+both false q s t = absurd s
+
+pub either-part : (p q : Bool) → T (p || q) → T p ⊎ T q
+either-part true q t = inl tt
+either-part false q t = inr t
+
+pub either : (p q : Bool) → T p ⊎ T q → T (p || q)
+either true q h = tt
+either false q h = elim h [ inl t ↦ absurd t | inr t ↦ t ]

@@ -1,15 +1,12 @@
 -- A rule of a table, shown at each of its entries by one test that is computed over the whole table. Assumes nothing.
 use mathlib.Core.Path.{subst}
-use mathlib.Core.Bool.{Bool, true, false, _&&_}
+use mathlib.Core.Bool.{Bool, true, _&&_}
 use mathlib.Core.List.{List, [], _∷_}
 use Prim.Native.Nat.{ℕ, zero, suc, _+_, _<_}
 use native.Mathlib.Omega.{arith}
 use lib.Dec.{T}
 use lib.ListN.{length, getD}
-
-pub both-parts : (p q : Bool) → T (p && q) → T p × T q
-both-parts true q t = (tt, t)
-both-parts false q t = absurd t
+use Rattle.whole.proofs.Bools.{both-parts}
 
 -- the test passes at each entry and its place, counted from i
 abbrev pub every : (ℕ → ℕ → Bool) → ℕ → List ℕ → Bool

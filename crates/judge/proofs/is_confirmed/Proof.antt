@@ -7,11 +7,11 @@ use Rattle.whole.proofs.Bools.{then-and, else-and}
 use Rattle.judge.proofs.is_confirmed.Statement.{statement}
 use Rattle.judge.proofs.is_confirmed.Tie as tie
 
-lowered-requires : tie.Need-lowered-requires
-lowered-requires c κs = search needs
+step-down-requires : tie.Need-step-down-requires
+step-down-requires c κs = search needs
 
-raised-requires : tie.Need-raised-requires
-raised-requires c κs = search needs
+step-up-requires : tie.Need-step-up-requires
+step-up-requires c κs = search needs
 
 lower-requires : tie.Need-lower-requires
 lower-requires c κs = search needs
@@ -23,20 +23,20 @@ returns : tie.Need-returns
 unfolding confirmed
 returns c =
     let at-lower = c .before .before in
-    let start = at-lower .before .before .before .args in
-    let p = ap (lowerEnd (start .o) (start .d .pairs)) (at-lower .before .before .lowered .ensures) in
-    let q = ap (upperEnd (start .o) (start .d .pairs)) (at-lower .before .raised .ensures) in
+    let start = at-lower .before .before .before .before .before .args in
+    let p = ap (lowerEnd (start .k .problem .cell) (start .k .problem .depth .pairs)) (at-lower .before .before .step-down .ensures) in
+    let q = ap (upperEnd (start .k .problem .cell) (start .k .problem .depth .pairs)) (at-lower .before .step-up .ensures) in
     then-and _ _ (sym (at-lower .lower .ensures ∙ p) ∙ c .before .if1 .taken) (c .upper .ensures ∙ q)
 
 returns-2 : tie.Need-returns-2
 unfolding confirmed
 returns-2 c =
     let at-lower = c .before in
-    let start = at-lower .before .before .before .args in
-    let p = ap (lowerEnd (start .o) (start .d .pairs)) (at-lower .before .before .lowered .ensures) in
+    let start = at-lower .before .before .before .before .before .args in
+    let p = ap (lowerEnd (start .k .problem .cell) (start .k .problem .depth .pairs)) (at-lower .before .before .step-down .ensures) in
     else-and _ _ (sym (at-lower .lower .ensures ∙ p) ∙ c .if1 .left)
 
 pub is-confirmed-spec : {M : Type 1} → statement M
 is-confirmed-spec =
     tie.close
-    (tie.spec lowered-requires raised-requires lower-requires upper-requires returns returns-2)
+    (tie.spec step-down-requires step-up-requires lower-requires upper-requires returns returns-2)

@@ -1,77 +1,100 @@
--- `judge::judge` meets its contract: a claim that is made a case passed every check, and its verdict is the rule's; a refused
--- one has the code of the first check that fails. Assumes nothing.
-use mathlib.Core.Path.{_≡_, sym, ap, _∙_, subst}
+-- `judge::judge` meets its contract: the problem's checks, the estimate's and the tolerance's, then the verdict.
+-- Assumes nothing.
+use mathlib.Core.Path.{_≡_, refl, sym, ap, subst, _∙_}
+use mathlib.Core.List.{[], _∷_}
 use borrow.Author.Needs.{needs}
-use Rattle.grid.proofs.Made.{Given, was-made, value-made, was-refused}
+use Rattle.grid.specs.Grid.{N-units}
+use Rattle.grid.specs.Codes.{bad-n, n-check}
+use Rattle.grid.proofs.FirstCode.{CodeOf, limit-code, in-turn, neither-code}
+use Rattle.orbit.specs.Given.{grid, problemChecks}
+use Rattle.orbit.proofs.Posed.{problems, problem-made}
+use Rattle.units.specs.Units.{estimate-check}
+use Rattle.units.specs.declared.CodedUnits.{CodedUnits}
+use Rattle.units.proofs.Made.{estimates}
+use Rattle.judge.specs.Judge.{Claim, claimChecks, caseAt, caseVerdict, judgeRule}
 use Rattle.judge.specs.Verdict.{verdictNumber}
-use Rattle.judge.specs.Judge.{claimChecks, caseAt, caseVerdict, verdict, judgeRule}
-use Rattle.judge.specs.Fair.{Tested}
-use Rattle.judge.specs.declared.Claim.{Claim}
+use Rattle.judge.specs.Limits.{CaseIn}
 use Rattle.judge.specs.declared.Case.{Case}
-use Rattle.judge.proofs.Checks.{case-answers, tested}
+use Rattle.judge.proofs.Answered.{claims, case-in}
 use Rattle.judge.proofs.judge.Statement.{statement}
 use Rattle.judge.proofs.judge.Tie as tie
 
--- the case that was made: its checks passed, and it is the claim's
-module _ (c : tie.After-k) where
-  abbrev claim : Claim
-  claim = c .before .before .before .args .claim
+abbrev claim : tie.After-new → Claim
+claim c =
+    let g = c .before .args in
+    record { given = grid (g .m) (g .a); estimate = g .estimate; n = g .n; depth = g .depth }
 
-  all-given : Given (claimChecks claim)
-  all-given =
-      was-made case-answers (caseAt claim) (claimChecks claim) (c .before .before .checked .result) (c .k .given .0 .0)
-      (c .before .before .checked .ensures) (c .k .given .1)
+code-is : (c : tie.After-earlier2) → CodeOf (claimChecks (claim (c .before .before .before .before))) (c .earlier2 .result)
+code-is c =
+    let k = claim (c .before .before .before .before) in
+    c .earlier2 .ensures
+    ∙ in-turn (problemChecks (k .given) (k .depth)) (estimate-check (k .estimate) ∷ n-check (k .n) ∷ []) tt _ _
+    (problems (k .given) (k .depth) .code-is _ (c .before .before .before .before .new .ensures))
+    (c .before .earlier .ensures
+    ∙ in-turn (estimate-check (k .estimate) ∷ []) (n-check (k .n) ∷ []) tt _ _
+    (estimates (k .estimate) .code-is _ (c .before .before .before .in-units .ensures))
+    (limit-code (k .n) N-units bad-n _ (c .before .before .limited .ensures)))
 
-  case-is : c .k .given .0 .0 ≡ caseAt claim
-  case-is =
-      value-made case-answers (caseAt claim) (claimChecks claim) (c .before .before .checked .result) (c .k .given .0 .0)
-      (c .before .before .checked .ensures) (c .k .given .1)
+-- with code 0 the problem and the estimate were made, and are the claim's
+case-is : (c : tie.Else1)
+    → let k = claim (c .before .before .before .before .before) in
+    _≡_ {A = Case} (record { problem = c .before .before .before .before .before .new .result .problem; units = c .before .before .before .before .in-units .result .units; tolerance = k .n }) (caseAt k)
+case-is c =
+    let e = c .before in
+    let k = claim (c .before .before .before .before .before) in
+    let (p, q) = neither-code (c .before .before .before .before .before .new .result .code) (e .before .earlier .result) (sym (e .earlier2 .ensures) ∙ c .if1 .left) in
+    let (r, t) = neither-code (c .before .before .before .before .in-units .result .code) (c .before .before .before .limited .result) (sym (e .before .earlier .ensures) ∙ q) in
+    let problem = problem-made (k .given) (k .depth) _ (c .before .before .before .before .before .new .ensures) p .0 in
+    let units = ap (λ (u : CodedUnits). u .units) (estimates (k .estimate) .value-is _ (c .before .before .before .before .in-units .ensures) r) in
+    simp (problem, units)
 
-checked-requires : tie.Need-checked-requires
-checked-requires c κs = search needs
+new-requires : tie.Need-new-requires
+new-requires c κs = search needs
 
-enum-known-code : tie.Need-enum-known-code
-enum-known-code c = search needs
+in-units-requires : tie.Need-in-units-requires
+in-units-requires c κs = search needs
 
-enum-known-k : tie.Need-enum-known-k
-enum-known-k c = search needs
+limited-requires : tie.Need-limited-requires
+limited-requires c κs = search needs
+
+earlier-requires : tie.Need-earlier-requires
+earlier-requires c κs = search needs
+
+earlier-requires-2 : tie.Need-earlier-requires-2
+earlier-requires-2 c κs = search needs
+
+returns : tie.Need-returns
+unfolding judgeRule
+returns c = let e = c .before in claims (claim (e .before .before .before .before)) .refused-by _ (code-is e) (c .if1 .taken) _ refl
 
 decide-requires : tie.Need-decide-requires
 decide-requires c κs =
-    let at = c .before in
-    subst (λ (k : Case). Tested (k .o) (k .u) (k .n) (k .d)) (sym (case-is at)) (tested (claim at) (all-given at))
+    let e = c .before .before in
+    let k = claim (e .before .before .before .before .before) in
+    subst CaseIn (sym (case-is e)) (case-in k (claims k .passed-by _ (code-is (e .before)) (e .if1 .left)))
 
 number-of-requires : tie.Need-number-of-requires
 number-of-requires c κs = search needs
 
-returns : tie.Need-returns
-unfolding judgeRule
-returns c =
-    let n = c .before .before .before in
-    let k = n .before .args .claim in
-    let told = c .before .code .given in
-    sym
-    (was-refused case-answers (caseAt k) (claimChecks k) (n .checked .result) (told .0 .0) (n .checked .ensures) (told .1) .on
-    (λ code. record { code = code; verdict = 0 }) (verdict (caseVerdict (caseAt k))))
-
 returns-2 : tie.Need-returns-2
 unfolding judgeRule
 returns-2 c =
-    let at = c .before .before .before in
-    let k = claim at in
+    let e = c .before .before .before .before in
+    let k = claim (e .before .before .before .before .before) in
     let v : c .number-of .result ≡ verdictNumber (caseVerdict (caseAt k)) =
-    c .number-of .ensures ∙ ap verdictNumber (c .before .decide .ensures ∙ ap caseVerdict (case-is at)) in
-    simp v
-    (sym (all-given at .on (λ code. record { code = code; verdict = 0 }) (verdict (caseVerdict (caseAt k)))))
+    c .number-of .ensures ∙ ap verdictNumber (c .before .decide .ensures ∙ ap caseVerdict (case-is e)) in
+    claims k .given-by _ (code-is (e .before)) (e .if1 .left) _ (simp (e .if1 .left, v))
 
 pub judge-spec : {M : Type 1} → statement M
 judge-spec =
     tie.close
     (tie.spec
-    checked-requires
-    enum-known-code
-    enum-known-k
+    new-requires
+    in-units-requires
+    limited-requires
+    earlier-requires
+    earlier-requires-2
+    returns
     decide-requires
     number-of-requires
-    returns
     returns-2)

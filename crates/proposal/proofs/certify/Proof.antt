@@ -7,16 +7,16 @@ use native.Mathlib.Numerals.{add-one}
 use lib.Dec.{T}
 use borrow.Author.Needs.{needs}
 use Rattle.proposal.specs.Certify.{certifies, firstFrom, certificate, widths}
-use Rattle.proposal.proofs.First.{above, stops, goes}
+use Rattle.proposal.proofs.Smallest.{above, stops, goes}
 use Rattle.proposal.proofs.Certificate.{last-width}
 use Rattle.proposal.proofs.certify.Statement.{statement}
 use Rattle.proposal.proofs.certify.Tie as tie
 
 abbrev Inv-loop : tie.InvT-loop
-Inv-loop o e i₀ i = (i < widths) × (firstFrom (certifies o e) i (widths - i) ≡ certificate o e)
+Inv-loop cell angle i₀ i = (i < widths) × (firstFrom (certifies cell angle) i (widths - i) ≡ certificate cell angle)
 
 abbrev μ-loop : tie.MeasureT-loop
-μ-loop o e i₀ i = widths - i
+μ-loop cell angle i₀ i = widths - i
 
 loop-holds : tie.Need-loop-holds Inv-loop μ-loop
 unfolding certificate
@@ -37,18 +37,18 @@ loop-again c =
     let p = c .before .before .before .pre in
     let i = c .before .before .loop .i in
     let h = c .before .before .loop .inv in
-    let e : certifies (a .o) (a .e) i ≡ false = sym (c .before .holds .ensures) ∙ c .if1 .left in
+    let e : certifies (a .cell) (a .angle) i ≡ false = sym (c .before .holds .ensures) ∙ c .if1 .left in
     let l : i < 30 =
-    above (certifies (a .o) (a .e)) (omega arith) (subst (λ (t : Bool). T (not t)) (sym e) tt)
-    (last-width (a .o) (a .e) (p .orbit .mean) (p .angle)) in
-    (omega arith, rw add-one (sym (goes (certifies (a .o) (a .e)) i widths (h .0) e) ∙ h .1))
+    above (certifies (a .cell) (a .angle)) (omega arith) (subst (λ (t : Bool). T (not t)) (sym e) tt)
+    (last-width (a .cell) (a .angle) (p .cell .mean) (p .angle)) in
+    (omega arith, rw add-one (sym (goes (certifies (a .cell) (a .angle)) i widths (h .0) e) ∙ h .1))
 
 returns : tie.Need-returns Inv-loop μ-loop
 returns c =
     let a = c .before .before .before .args in
     let h = c .before .before .loop .inv in
     let e = sym (c .before .holds .ensures) ∙ c .if1 .taken in
-    sym (stops (certifies (a .o) (a .e)) (c .before .before .loop .i) widths (h .0) e) ∙ h .1
+    sym (stops (certifies (a .cell) (a .angle)) (c .before .before .loop .i) widths (h .0) e) ∙ h .1
 
 pub certify-spec : {M : Type 1} → statement M
 certify-spec =

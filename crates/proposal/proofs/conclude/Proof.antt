@@ -6,23 +6,23 @@ use borrow.Author.Needs.{needs}
 use Rattle.grid.specs.Grid.{T-units}
 use Rattle.rotations.specs.Rotate.{brought}
 use Rattle.proposal.specs.Propose.{concluded}
-use Rattle.rotations.proofs.Ranges.{brought-within}
-use Rattle.rotations.proofs.Size.{read}
+use Rattle.rotations.proofs.Brought.{brought-within}
+use Rattle.rotations.proofs.CodeSize.{read}
 use Rattle.proposal.proofs.conclude.Statement.{statement}
 use Rattle.proposal.proofs.conclude.Tie as tie
 
-angle-is : (c : tie.After-bring) → c .bring .result ≡ brought (c .before .before .args .s .e)
-angle-is c = rw (read (c .before .before .pre .room .e)) at (c .bring .ensures)
+angle-is : (c : tie.After-bring) → c .bring .result ≡ brought (c .before .before .args .s .angle)
+angle-is c = rw (read (c .before .before .pre .state .angle)) at (c .bring .ensures)
 
 angle-within : (c : tie.After-bring) → c .bring .result ≤ T-units
-angle-within c = rw (angle-is c) (brought-within (c .before .before .args .s .e))
+angle-within c = rw (angle-is c) (brought-within (c .before .before .args .s .angle))
 
 bring-requires : tie.Need-bring-requires
 bring-requires c κs = search needs
 
 certify-requires : tie.Need-certify-requires
 certify-requires c κs =
-    record { orbit = c .before .before .pre .orbit; angle = angle-within c; width = omega arith }
+    record { cell = c .before .before .pre .cell; angle = angle-within c; width = omega arith }
 
 cast-t5 : tie.Need-cast-t5
 cast-t5 c = omega (arith, angle-within (c .before))
@@ -30,8 +30,8 @@ cast-t5 c = omega (arith, angle-within (c .before))
 returns : tie.Need-returns
 unfolding concluded
 returns c =
-    let p = c .before .before .before .before .pre .room in
-    cc (angle-is (c .before .before), read (p .x), read (p .y))
+    let p = c .before .before .before .before .pre .state in
+    cc (angle-is (c .before .before), read (p .cosine), read (p .sine))
 
 pub conclude-spec : {M : Type 1} → statement M
 conclude-spec = tie.close (tie.spec bring-requires certify-requires cast-t5 returns)
