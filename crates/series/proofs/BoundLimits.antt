@@ -1,18 +1,14 @@
--- How far from zero the bounds of a series, and so Lo and Hi, can lie, on either side. Assumes nothing.
+-- How far from zero the bounds of a series can lie, on either side, by a limit for its terms. Assumes nothing.
 use Prim.Native.Nat.{ℕ, zero, suc, _-_, _*_, _≤_, _<_}
 use native.Mathlib.Omega.{arith}
 use native.Mathlib.Nat.{mul-le-mul-right}
 use lib.Dec.{ltb, ltb→lt}
 use lib.IntN.{ℤ, pos, negsuc, subℕ}
-use Rattle.grid.specs.Grid.{T-units, depths}
 use Rattle.whole.proofs.Parts.{plus, minus, by-test}
 use Rattle.whole.proofs.Order.{of-greater, of-lesser}
 use Rattle.series.specs.Terms.{Series, l, u}
 use Rattle.series.specs.Bounds.{evens, odds, rawLow, rawHigh, greatestLow, leastHigh}
-use Rattle.series.specs.Sine.{sine, Lo, Hi}
-use Rattle.series.specs.Walk.{term-limit}
-use Rattle.series.proofs.TermLimits.{InRange, l-limit, evens-limit, odds-limit}
-use Rattle.series.proofs.SineTerms.{sine-in-range}
+use Rattle.series.proofs.TermLimits.{evens-limit, odds-limit}
 
 -- z is at most n, and at least -n
 pub record Bounded (n : ℕ) (z : ℤ) : Type 0 where
@@ -52,29 +48,3 @@ module _ (s : Series) (X B : ℕ) (low : (k : ℕ) → l s X k ≤ B) (high : (k
   least-within (suc d) n h k =
       of-lesser (Bounded (n * B)) (leastHigh s X d) (rawHigh s X (suc d)) (least-within d n (omega arith) k)
       (raw-high-within (suc d) n h)
-
--- below 2^34: depth 5 has at most 6 terms of a sign
-abbrev pub bound-limit : ℕ
-bound-limit = 6 * term-limit
-
-abbrev pub InBounds : ℤ → Type 0
-InBounds z = Bounded bound-limit z
-
-module _ (s : Series) (X : ℕ) (r : InRange s X) (d : ℕ) (h : d ≤ depths) where
-  pub raw-low-in : InBounds (rawLow s X d)
-  raw-low-in = raw-low-within s X term-limit (l-limit s X r) (r .terms) d 6 (omega arith)
-
-  pub raw-high-in : InBounds (rawHigh s X d)
-  raw-high-in = raw-high-within s X term-limit (l-limit s X r) (r .terms) d 6 (omega arith)
-
-  pub greatest-in : InBounds (greatestLow s X d)
-  greatest-in = greatest-within s X term-limit (l-limit s X r) (r .terms) d 6 (omega arith) (omega arith)
-
-  pub least-in : InBounds (leastHigh s X d)
-  least-in = least-within s X term-limit (l-limit s X r) (r .terms) d 6 (omega arith) (omega arith)
-
-pub Lo-within : (X d : ℕ) → X ≤ T-units → d ≤ depths → InBounds (Lo X d)
-Lo-within X d x = greatest-in sine X (sine-in-range X x) d
-
-pub Hi-within : (X d : ℕ) → X ≤ T-units → d ≤ depths → InBounds (Hi X d)
-Hi-within X d x = least-in sine X (sine-in-range X x) d

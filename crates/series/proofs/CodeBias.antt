@@ -13,7 +13,7 @@ use Rattle.whole.specs.Choose.{greater, lesser}
 use Rattle.whole.proofs.Parts.{plus, minus, Is, own, is-sub, by-test}
 use Rattle.whole.proofs.Order.{le-parts, one-number, of-greater, of-lesser, le-greater-left, le-greater-right, lesser-le-left, lesser-le-right}
 use Rattle.series.specs.Walk.{bias, biased, Room}
-use Rattle.series.proofs.BoundLimits.{InBounds}
+use Rattle.series.proofs.CodeRange.{InBounds}
 
 -- a biased difference
 pub biased-is : {z : ℤ} {a b : ℕ} → Is z a b → b ≤ bias + a → biased z ≡ bias + a - b
@@ -33,13 +33,13 @@ pub biased-parts : (z : ℤ) → InBounds z → biased z + minus z ≡ bias + pl
 biased-parts (pos n) w = omega arith
 biased-parts (negsuc n) w = let h = w .below in omega arith
 
-pub biased-le : (y z : ℤ) → InBounds y → InBounds z → y ≤ℤ z → biased y ≤ biased z
+biased-le : (y z : ℤ) → InBounds y → InBounds z → y ≤ℤ z → biased y ≤ biased z
 biased-le y z v w h =
     let k = le-parts (own y) (own z) .0 h in
     let p = biased-parts y v in
     let q = biased-parts z w in omega arith
 
-pub unbiased-is : (z : ℤ) → InBounds z → subℕ (biased z) bias ≡ z
+unbiased-is : (z : ℤ) → InBounds z → subℕ (biased z) bias ≡ z
 unbiased-is z w =
     let p = biased-parts z w in
     one-number (is-sub (biased z) bias) (record { eq = omega arith })

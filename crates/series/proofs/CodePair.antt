@@ -8,22 +8,22 @@ use Rattle.grid.specs.Grid.{depths}
 use Rattle.whole.proofs.Parts.{is-sub}
 use Rattle.series.specs.Terms.{Series, l, u, Q-}
 use Rattle.series.specs.Bounds.{evens, odds, rawLow, rawHigh, greatestLow, leastHigh}
-use Rattle.series.specs.Walk.{bias, biased, bestLow, bestHigh, walk, begun, deepened, term-limit, TermFits, Room, PairFits}
+use Rattle.series.specs.Walk.{bias, biased, bestLow, bestHigh, walk, deepened, term-limit, TermFits, Room, PairFits}
 use Rattle.series.specs.declared.Walk.{Walk}
-use Rattle.series.proofs.TermLimits.{InRange, Q-order, l-limit, evens-limit, odds-limit}
-use Rattle.series.proofs.BoundLimits.{raw-low-in, raw-high-in, greatest-in, least-in}
-use Rattle.series.proofs.CodeBias.{biased-is, biased-step, biased-small, biased-greater, biased-lesser}
+use Rattle.series.proofs.TermLimits.{Q-order, evens-limit, odds-limit}
+use Rattle.series.proofs.CodeRange.{InRange, l-limit, raw-low-in, raw-high-in, greatest-in, least-in}
+use Rattle.series.proofs.CodeBias.{biased-step, biased-small, biased-greater, biased-lesser}
 
 -- sums of at most six terms are below 2^34
 sums : (f : ℕ → ℕ) → ((k : ℕ) → f k ≤ term-limit) → (n : ℕ) → n ≤ 6 → (evens f n ≤ bias) × (odds f n ≤ bias)
 sums f h n few = (omega (arith, evens-limit f term-limit h n), omega (arith, odds-limit f term-limit h n))
 
-pub begins : (s : Series) (X : ℕ) → begun X (s .term0 X) ≡ walk s X 0
-unfolding l u evens odds rawLow rawHigh bestLow bestHigh
-begins s X =
-    let high = biased-is (is-sub (0 + s .term0 X) 0) (omega arith) in
-    let e : bias + s .term0 X ≡ bias + (0 + s .term0 X) - 0 = omega arith in
-    cc (high, e)
+-- the divisors of the pair after d pairs
+abbrev pub oddDivisor : Series → ℕ → ℕ
+oddDivisor s d = s .divisor (suc (2 * d))
+
+abbrev pub evenDivisor : Series → ℕ → ℕ
+evenDivisor s d = s .divisor (suc (suc (2 * d)))
 
 module _ (s : Series) (X : ℕ) (r : InRange s X) where
   down-fits : (k : ℕ) → k < 2 * depths → TermFits (l s X k) (Q- X) (s .divisor (suc k))
@@ -60,15 +60,15 @@ module _ (s : Series) (X : ℕ) (r : InRange s X) where
     next : suc (suc (2 * d)) ≡ 2 * suc d
     next = omega arith
 
-    fits : PairFits (walk s X d) (s .divisor (suc (2 * d))) (s .divisor (suc (suc (2 * d))))
+    fits : PairFits (walk s X d) (oddDivisor s d) (evenDivisor s d)
     unfolding l u
     fits =
         record {
           fewer = h;
           down = down-fits (2 * d) (omega arith);
           up = r .fits (2 * d) (omega arith);
-          downward = down-fits (suc (2 * d)) (omega arith);
-          upward = r .fits (suc (2 * d)) (omega arith);
+          down1 = down-fits (suc (2 * d)) (omega arith);
+          up1 = r .fits (suc (2 * d)) (omega arith);
           low = low-step .0;
           high = subst (λ (n : ℕ). Room (biased (rawHigh s X d)) (u s X n) (l s X (suc (2 * d)))) (sym next) (high-step .0);
         }
@@ -91,25 +91,20 @@ module _ (s : Series) (X : ℕ) (r : InRange s X) where
       biased-lesser (leastHigh s X (suc d)) (rawHigh s X (suc (suc d))) (least-in s X r (suc d) (omega arith))
       (raw-high-in s X r (suc (suc d)) h)
 
-  stepped : (d : ℕ) → d < depths → deepened (walk s X d) (s .divisor (suc (2 * d))) (s .divisor (suc (suc (2 * d)))) ≡ walk s X (suc d)
+  stepped : (d : ℕ) → d < depths → deepened (walk s X d) (oddDivisor s d) (evenDivisor s d) ≡ walk s X (suc d)
   unfolding deepened l u
   stepped d h =
       let e = next d h in
-      let low = low-step d h .1 in
-      let high = high-step d h .1 in
-      let greatest = better-low d h in
-      let least = better-high d h in
-      let more = add-one d in
       let lower : l s X (suc (suc (2 * d))) ≡ l s X (2 * suc d) = ap (l s X) e in
       let upper : u s X (suc (suc (2 * d))) ≡ u s X (2 * suc d) = ap (u s X) e in
-      cc (low, high, greatest, least, more, lower, upper)
+      cc (low-step d h .1, high-step d h .1, better-low d h, better-high d h, add-one d, lower, upper)
 
   -- of what is known to be a walk
   module _ (d : ℕ) (h : d < depths) (w : Walk) (at : w ≡ walk s X d) where
-    pub pair-fits : PairFits w (s .divisor (suc (2 * d))) (s .divisor (suc (suc (2 * d))))
+    pub pair-fits : PairFits w (oddDivisor s d) (evenDivisor s d)
     pair-fits =
-        subst (λ (t : Walk). PairFits t (s .divisor (suc (2 * d))) (s .divisor (suc (suc (2 * d))))) (sym at) (fits d h)
+        subst (λ (t : Walk). PairFits t (oddDivisor s d) (evenDivisor s d)) (sym at) (fits d h)
 
-    pub paired : (t : Walk) → t ≡ deepened w (s .divisor (suc (2 * d))) (s .divisor (suc (suc (2 * d)))) → t ≡ walk s X (suc d)
+    pub paired : (t : Walk) → t ≡ deepened w (oddDivisor s d) (evenDivisor s d) → t ≡ walk s X (suc d)
     paired t e =
-        e ∙ ap (λ (v : Walk). deepened v (s .divisor (suc (2 * d))) (s .divisor (suc (suc (2 * d))))) at ∙ stepped d h
+        e ∙ ap (λ (v : Walk). deepened v (oddDivisor s d) (evenDivisor s d)) at ∙ stepped d h

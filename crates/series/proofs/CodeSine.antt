@@ -19,7 +19,7 @@ use Rattle.series.specs.Entry.{sineChecks, sineRefused, sineRule}
 use Rattle.series.specs.Walk.{bias, biasedBounds}
 use Rattle.series.specs.declared.Biased.{Biased}
 use Rattle.series.specs.declared.SineBounds.{SineBounds}
-use Rattle.series.proofs.BoundLimits.{InBounds, Lo-within, Hi-within}
+use Rattle.series.proofs.CodeRange.{InBounds, Lo-within, Hi-within}
 use Rattle.series.proofs.CodeBias.{biased-small, unbiased-back}
 
 -- what the entry makes of its two numbers before it tests the code n

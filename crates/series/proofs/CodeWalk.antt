@@ -1,28 +1,40 @@
--- From pair to pair: sine's walk of X after d pairs may go on with the pair's divisors, goes to d + 1, and has the bounds of
--- its depth. Assumes nothing.
+-- From pair to pair: a walk begins, sine's walk of X after d pairs goes to d + 1, and a walk has the bounds of its depth.
+-- Assumes nothing.
 use mathlib.Core.Path.{_≡_, refl, sym, ap, _∙_, subst}
-use Prim.Native.Nat.{ℕ, suc, _*_, _≤_, _<_}
+use Prim.Native.Nat.{ℕ, zero, suc, _+_, _-_, _≤_, _<_}
+use native.Mathlib.Omega.{arith}
 use Rattle.grid.specs.Grid.{T-units, depths}
-use Rattle.series.specs.Terms.{Series}
+use Rattle.whole.proofs.Parts.{is-sub}
+use Rattle.series.specs.Terms.{Series, l, u}
+use Rattle.series.specs.Bounds.{evens, odds, rawLow, rawHigh}
 use Rattle.series.specs.Sine.{sine}
-use Rattle.series.specs.Walk.{Unfinished, PairFits, walk, deepened, bestLow, bestHigh, biasedBounds}
+use Rattle.series.specs.Walk.{bias, biasedBounds, bestLow, bestHigh, walk, begun, deepened, PairFits, Unfinished}
 use Rattle.series.specs.declared.Walk.{Walk}
 use Rattle.series.specs.declared.Biased.{Biased}
-use Rattle.series.proofs.SineTerms.{sine-in-range}
-use Rattle.series.proofs.CodePair.{pair-fits, paired}
+use Rattle.series.proofs.CodeBias.{biased-is}
+use Rattle.series.proofs.CodeRange.{sine-in-range}
+use Rattle.series.proofs.CodePair.{oddDivisor, evenDivisor, pair-fits, paired}
 
--- the divisors of the pair after d pairs
+-- before the first pair
+pub begins : (s : Series) (X : ℕ) → begun X (s .term0 X) ≡ walk s X 0
+unfolding l u evens odds rawLow rawHigh bestLow bestHigh
+begins s X =
+    let high = biased-is (is-sub (0 + s .term0 X) 0) (omega arith) in
+    let e : bias + s .term0 X ≡ bias + (0 + s .term0 X) - 0 = omega arith in
+    cc (high, e)
+
+-- with the divisors of the pair that comes next, in the arm of its number
 module _ (w : Walk) (d : ℕ) (h : Unfinished w) (e : w .pairs ≡ d) where
-  pub arm-fits : PairFits w (sine .divisor (suc (2 * d))) (sine .divisor (suc (suc (2 * d))))
+  pub arm-fits : PairFits w (oddDivisor sine d) (evenDivisor sine d)
   arm-fits =
-      subst (λ (n : ℕ). PairFits w (sine .divisor (suc (2 * n))) (sine .divisor (suc (suc (2 * n))))) e
+      subst (λ (n : ℕ). PairFits w (oddDivisor sine n) (evenDivisor sine n)) e
       (pair-fits sine (w .angle) (sine-in-range (w .angle) (h .top)) (w .pairs) (h .fewer) w (h .at))
 
-  pub arm-next : (t : Walk) → t ≡ deepened w (sine .divisor (suc (2 * d))) (sine .divisor (suc (suc (2 * d)))) →
+  pub arm-next : (t : Walk) → t ≡ deepened w (oddDivisor sine d) (evenDivisor sine d) →
       t ≡ walk sine (w .angle) (suc (w .pairs))
   arm-next t f =
       paired sine (w .angle) (sine-in-range (w .angle) (h .top)) (w .pairs) (h .fewer) w (h .at) t
-      (f ∙ ap (λ (n : ℕ). deepened w (sine .divisor (suc (2 * n))) (sine .divisor (suc (suc (2 * n))))) (sym e))
+      (f ∙ ap (λ (n : ℕ). deepened w (oddDivisor sine n) (evenDivisor sine n)) (sym e))
 
 module _ (w : Walk) (X d : ℕ) (e : w ≡ walk sine X d) where
   pub unfinished : X ≤ T-units → d < depths → Unfinished w
@@ -38,8 +50,9 @@ module _ (w : Walk) (X d : ℕ) (e : w ≡ walk sine X d) where
   pub walked-own : w ≡ walk sine (w .angle) (w .pairs)
   walked-own = subst (λ (v : Walk). v ≡ walk sine (v .angle) (v .pairs)) (sym e) refl
 
--- the bounds that a walk of n + 1 pairs has
-pub bounds : (s : Series) (w : Walk) (X n : ℕ) → w ≡ walk s X (suc n) →
-    _≡_ {A = Biased} record { lo = w .greatest; hi = w .least } (biasedBounds s X (suc n))
+-- the bounds that a walk has come to
+pub bounds : (s : Series) (w : Walk) (X d : ℕ) → 1 ≤ d → w ≡ walk s X d →
+    _≡_ {A = Biased} record { lo = w .greatest; hi = w .least } (biasedBounds s X d)
 unfolding bestLow bestHigh
-bounds s w X n e = ap (λ (v : Walk). record { lo = v .greatest; hi = v .least }) e
+bounds s w X zero h e = absurd (let k : ⊥ = omega arith in k)
+bounds s w X (suc d) h e = ap (λ (v : Walk). record { lo = v .greatest; hi = v .least }) e

@@ -3,6 +3,7 @@ pub mod BoundLimits
 pub mod BoundsTrue
 pub mod CodeBias
 pub mod CodePair
+pub mod CodeRange
 pub mod CodeSine
 pub mod CodeWalk
 pub mod Deeper

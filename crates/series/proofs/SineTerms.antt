@@ -1,13 +1,12 @@
 -- Sine's terms for the angles tested: the greatest angle gives a limit for every angle. Assumes nothing.
 use Prim.Native.Nat.{ℕ, suc, _*_, _≤_}
 use native.Mathlib.Omega.{arith}
-use native.Mathlib.Nat.{le-trans, mul-le-mul, mul-le-mul-left}
+use native.Mathlib.Nat.{le-trans, mul-le-mul-left}
 use lib.Dec.{T, leb, lit≤}
 use Rattle.grid.specs.Grid.{one, T-units}
-use Rattle.series.specs.Terms.{Q+, u}
+use Rattle.series.specs.Terms.{Q+, l, u}
 use Rattle.series.specs.Sine.{sine}
-use Rattle.series.specs.Walk.{term-limit}
-use Rattle.series.proofs.TermLimits.{Divides, InRange, Q-mono, u-mono, u-limit}
+use Rattle.series.proofs.TermLimits.{Divides, Q-mono, u-mono, l-le-u, u-limit}
 
 pub sine-divides : Divides sine
 sine-divides k = omega arith
@@ -24,26 +23,15 @@ Q-within X h = le-trans (Q-mono h) (lit≤ tt)
 at-T : (X k B : ℕ) → X ≤ T-units → T (leb (u sine T-units k) B) → u sine X k ≤ B
 at-T X k B h t = le-trans (u-mono sine sine-divides h h k) (lit≤ t)
 
-terms-within : (X : ℕ) → X ≤ T-units → (k : ℕ) → u sine X k ≤ term-limit
+-- no term is above 8 radians
+pub u-within : (X : ℕ) → X ≤ T-units → (k : ℕ) → u sine X k ≤ 8 * one
 unfolding u
-terms-within X h =
-    u-limit sine sine-divides X term-limit (omega arith) (at-T X 1 term-limit h tt)
+u-within X h =
+    u-limit sine sine-divides X (8 * one) (omega arith) (at-T X 1 (8 * one) h tt)
     (λ k. omega (arith, Q-within X h, mul-le-mul-left one (from-20 k)))
 
-pub sine-in-range : (X : ℕ) → X ≤ T-units → InRange sine X
-sine-in-range X h =
-    record {
-      divides = sine-divides;
-      terms = terms-within X h;
-      fits = λ k few.
-          let m : k ≤ 9 = omega arith in
-          record {
-            term = terms-within X h k;
-            square = omega (arith, Q-within X h);
-            divides = sine-divides k;
-            little = omega (arith, mul-le-mul m m);
-          };
-    }
+pub l-within : (X : ℕ) → X ≤ T-units → (k : ℕ) → l sine X k ≤ 8 * one
+l-within X h k = le-trans (l-le-u sine sine-divides X k) (u-within X h k)
 
 -- the last term that depth 5 adds
 pub u10-within : (X : ℕ) → X ≤ T-units → u sine X 10 ≤ 1

@@ -3,21 +3,14 @@ use Prim.Native.Nat.{ℕ, zero, suc, _*_, _≤_, _<_}
 use native.Mathlib.Omega.{arith}
 use native.Mathlib.Nat.{le-trans, mul-le-mul, mul-le-mul-left, mul-pos}
 use lib.Dec.{lit<}
-use Rattle.grid.specs.Grid.{one, depths}
+use Rattle.grid.specs.Grid.{one}
 use Rattle.whole.proofs.Round.{down-mono, up-mono, down-le-up, up-le}
 use Rattle.series.specs.Terms.{Series, Q-, Q+, l, u}
 use Rattle.series.specs.Bounds.{evens, odds}
-use Rattle.series.specs.Walk.{term-limit, TermFits}
 
 -- what makes the divisions of a series' terms divisions
 abbrev pub Divides : Series → Type 0
 Divides s = (k : ℕ) → 0 < s .divisor (suc k)
-
--- what the code asks of a series at X: all terms are small, and up to the last that is made each makes the next
-pub record InRange (s : Series) (X : ℕ) : Type 0 where
-  pub divides : Divides s
-  pub terms : (k : ℕ) → u s X k ≤ term-limit
-  pub fits : (k : ℕ) → k < 2 * depths → TermFits (u s X k) (Q+ X) (s .divisor (suc k))
 
 one-pos : 0 < one
 one-pos = lit< tt
@@ -59,9 +52,6 @@ module _ (s : Series) (div : Divides s) where
   u-limit X B a b h zero = a
   u-limit X B a b h (suc zero) = b
   u-limit X B a b h (suc (suc k)) = le-trans (u-falls X (suc k) (h k)) (u-limit X B a b h (suc k))
-
-pub l-limit : (s : Series) (X : ℕ) → InRange s X → (k : ℕ) → l s X k ≤ term-limit
-l-limit s X r k = le-trans (l-le-u s (r .divides) X k) (r .terms k)
 
 -- n terms, each within a limit
 pub evens-limit : (f : ℕ → ℕ) (B : ℕ) → ((k : ℕ) → f k ≤ B) → (n : ℕ) → evens f n ≤ n * B

@@ -12,8 +12,8 @@ use Rattle.whole.proofs.Round.{lt-down, up-lt, up-le}
 use Rattle.series.specs.Terms.{Series, Q-, Q+, l, u}
 use Rattle.series.specs.Bounds.{evens, odds, rawLow, rawHigh, greatestLow, leastHigh}
 use Rattle.series.specs.Sine.{sine, Lo, Hi}
-use Rattle.series.proofs.TermLimits.{Divides, unit-pos, l-limit}
-use Rattle.series.proofs.SineTerms.{sine-divides, from-20, Q-within, sine-in-range, u10-within}
+use Rattle.series.proofs.TermLimits.{Divides, unit-pos}
+use Rattle.series.proofs.SineTerms.{sine-divides, from-20, Q-within, l-within, u10-within}
 use Rattle.series.proofs.Deeper.{raw-le-greatest, least-le-raw}
 
 Q-gap : (X : ℕ) → Q+ X ≤ Q- X + 1
@@ -72,7 +72,7 @@ width s X g d near =
 pub sine-gap : (X : ℕ) → X ≤ T-units → (k : ℕ) → u sine X k ≤ l sine X k + 3
 sine-gap X h =
     gap sine sine-divides X (omega arith)
-    (λ k. omega (arith, Q-within X h, l-limit sine X (sine-in-range X h) (suc k), mul-le-mul-left one (from-20 k)))
+    (λ k. omega (arith, Q-within X h, l-within X h (suc k), mul-le-mul-left one (from-20 k)))
 
 pub width-5 : (X : ℕ) → X ≤ T-units → Hi X 5 ≤ℤ (Lo X 5 +ℤ pos 32)
 width-5 X h =

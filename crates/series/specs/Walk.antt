@@ -113,8 +113,8 @@ pub record PairFits (w : Walk) (odd even : ℕ) : Type 0 where
   pub fewer : w .pairs < depths
   pub down : TermFits (w .down) (w .floor) odd
   pub up : TermFits (w .up) (w .ceiling) odd
-  pub downward : TermFits (oddDown w odd) (w .floor) even
-  pub upward : TermFits (oddUp w odd) (w .ceiling) even
+  pub down1 : TermFits (oddDown w odd) (w .floor) even
+  pub up1 : TermFits (oddUp w odd) (w .ceiling) even
   pub low : Room (w .low) (w .down) (oddUp w odd)
   pub high : Room (w .high) (evenUp w odd even) (oddDown w odd)
 

@@ -7,9 +7,9 @@ use Rattle.series.specs.Sine.{sine}
 use Rattle.series.specs.Walk.{walk, biasedBounds}
 use Rattle.series.specs.declared.Walk.{Walk}
 use Rattle.series.specs.declared.Biased.{Biased}
-use Rattle.series.proofs.SineTerms.{sine-in-range}
-use Rattle.series.proofs.CodePair.{begins, pair-fits, paired}
-use Rattle.series.proofs.CodeWalk.{bounds}
+use Rattle.series.proofs.CodeRange.{sine-in-range}
+use Rattle.series.proofs.CodePair.{pair-fits, paired}
+use Rattle.series.proofs.CodeWalk.{begins, bounds}
 use Rattle.series.proofs.bounds_at.Statement.{statement}
 use Rattle.series.proofs.bounds_at.Tie as tie
 
@@ -35,7 +35,7 @@ after-5 c = paired sine _ (sine-in-range _ (c .before .before .before .before .b
 -- the bounds of a walk at the depth asked for
 at-depth : (w : Walk) (X n d : ℕ) → w ≡ walk sine X (suc n) → d ≡ suc n →
     _≡_ {A = Biased} record { lo = w .greatest; hi = w .least } (biasedBounds sine X d)
-at-depth w X n d e f = bounds sine w X n e ∙ ap (biasedBounds sine X) (sym f)
+at-depth w X n d e f = bounds sine w X (suc n) (omega arith) e ∙ ap (biasedBounds sine X) (sym f)
 
 begin-requires : tie.Need-begin-requires
 begin-requires c κs = let top = c .pre .0 .top in (top, omega arith)

@@ -12,10 +12,10 @@ term-up-requires : tie.Need-term-up-requires
 term-up-requires c κs = c .before .pre .up
 
 term-down-requires-2 : tie.Need-term-down-requires-2
-term-down-requires-2 c κs = rw (c .before .term-down .ensures) (c .before .before .pre .downward)
+term-down-requires-2 c κs = rw (c .before .term-down .ensures) (c .before .before .pre .down1)
 
 term-up-requires-2 : tie.Need-term-up-requires-2
-term-up-requires-2 c κs = rw (c .before .term-up .ensures) (c .before .before .before .pre .upward)
+term-up-requires-2 c κs = rw (c .before .term-up .ensures) (c .before .before .before .pre .up1)
 
 -- the room of the high, by the terms found
 high-room : (c : tie.After-term-up2) →
