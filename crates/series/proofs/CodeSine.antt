@@ -31,7 +31,8 @@ pub record BothMade (x d n : ℕ) (a : CodedAngle) (b : CodedDepth) : Type 0 whe
 module _ {x d n : ℕ} {a : CodedAngle} {b : CodedDepth} (m : BothMade x d n a b) where
   code-is : CodeOf (sineChecks x d) n
   code-is =
-      m .code ∙ in-turn (depth-check d ∷ []) (x-check x ∷ []) tt _ _ (depths-made d .code-is b (m .depth)) (angles x .code-is a (m .angle))
+      m .code
+      ∙ in-turn (depth-check d ∷ []) (x-check x ∷ []) tt _ _ (depths-made d .code-is b (m .depth)) (angles x .code-is a (m .angle))
 
   pub refused : (n ≡ 0 → ⊥) → sineRefused n ≡ sineRule x d
   unfolding sineRule
@@ -53,11 +54,8 @@ module _ {x d n : ℕ} {a : CodedAngle} {b : CodedDepth} (m : BothMade x d n a b
     pub on-grid : AngleIn (a .angle) × DepthIn (b .depth)
     on-grid = rw (angle-is, depth-is) (record { top = angle-in }, depth-fits d (fit .0))
 
-    lo-in : InBounds (Lo x d)
-    lo-in = Lo-within x d angle-in (depth-fits d (fit .0) .few)
-
-    hi-in : InBounds (Hi x d)
-    hi-in = Hi-within x d angle-in (depth-fits d (fit .0) .few)
+    bounds-in : InBounds (Lo x d) × InBounds (Hi x d)
+    bounds-in = let few = depth-fits d (fit .0) .few in (Lo-within x d angle-in few, Hi-within x d angle-in few)
 
     module _ (r : Biased) (bounds : r ≡ biasedBounds sine (a .angle .units) (b .depth .pairs)) where
       found : r ≡ biasedBounds sine x d
@@ -66,12 +64,12 @@ module _ {x d n : ℕ} {a : CodedAngle} {b : CodedDepth} (m : BothMade x d n a b
           ∙ ap₂ (λ (s : CodedAngle) (t : CodedDepth). biasedBounds sine (s .angle .units) (t .depth .pairs)) angle-is depth-is
 
       pub small : (r .lo ≤ 2 * bias) × (r .hi ≤ 2 * bias)
-      small = rw found (biased-small _ lo-in, biased-small _ hi-in)
+      small = rw found (biased-small _ (bounds-in .0), biased-small _ (bounds-in .1))
 
       pub answered : (lo hi : ℤ) → lo ≡ subℕ (r .lo) bias → hi ≡ subℕ (r .hi) bias →
           _≡_ {A = SineBounds} record { code = n; lo = toZ w64 (ofZ w64 lo); hi = toZ w64 (ofZ w64 hi) } (sineRule x d)
       unfolding sineRule
       answered lo hi e f =
-          let p = unbiased-back lo (r .lo) _ e (ap (λ (t : Biased). t .lo) found) lo-in in
-          let q = unbiased-back hi (r .hi) _ f (ap (λ (t : Biased). t .hi) found) hi-in in
+          let p = unbiased-back lo (r .lo) _ e (ap (λ (t : Biased). t .lo) found) (bounds-in .0) in
+          let q = unbiased-back hi (r .hi) _ f (ap (λ (t : Biased). t .hi) found) (bounds-in .1) in
           cc (p, q, none) ∙ sym (goes (sineChecks x d) fit sineRefused (record { code = 0; lo = Lo x d; hi = Hi x d }))
