@@ -50,6 +50,7 @@ walk s X d =
 
 -- ---- the steps on a walk's numbers alone
 
+-- before the first pair
 abbrev pub begun : ℕ → ℕ → Walk
 begun X term0 =
     record {
@@ -95,9 +96,11 @@ deepened w odd even =
 
 -- ---- what the steps ask for, so that nothing overflows
 
+-- 2^31: six terms of a sign stay below the bias
 abbrev pub term-limit : ℕ
 term-limit = 2147483648
 
+-- a term and a square whose product fits, and a divisor
 pub record TermFits (t q divisor : ℕ) : Type 0 where
   pub term : t ≤ term-limit
   pub square : q ≤ 4294967296
@@ -109,6 +112,7 @@ pub record Room (sum gain loss : ℕ) : Type 0 where
   pub top : sum + gain ≤ 3 * bias
   pub bottom : loss ≤ sum + gain
 
+-- a pair of terms: down1 and up1 are the odd-numbered one, of which the even-numbered one is made
 pub record PairFits (w : Walk) (odd even : ℕ) : Type 0 where
   pub fewer : w .pairs < depths
   pub down : TermFits (w .down) (w .floor) odd

@@ -196,10 +196,10 @@ pub fn sine(x: u32, depth: u32) -> SineBounds
     if code != codes::DONE {
         return SineBounds { code, lo: 0, hi: 0 };
     }
-    let b = bounds_at(made_angle.angle, made_depth.depth);
+    let bounds = bounds_at(made_angle.angle, made_depth.depth);
     SineBounds {
         code,
-        lo: unbiased(b.lo),
-        hi: unbiased(b.hi),
+        lo: unbiased(bounds.lo),
+        hi: unbiased(bounds.hi),
     }
 }
