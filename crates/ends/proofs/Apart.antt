@@ -7,8 +7,8 @@ use lib.Dec.{T, ltb, not-T, ltb→lt, nltb→le}
 use Rattle.grid.specs.Grid.{one, T-units, depths}
 use Rattle.series.specs.Sine.{sine, Lo, Hi, den9}
 use Rattle.series.proofs.Sums.{same, other}
-use Rattle.series.proofs.Range.{sine-divides}
-use Rattle.series.proofs.Truth.{den-pos}
+use Rattle.series.proofs.SineTerms.{sine-divides}
+use Rattle.series.proofs.TermsTrue.{den-pos}
 use Rattle.series.proofs.Next.{drop-last}
 use Rattle.series.proofs.Rise.{sine-rises}
 use Rattle.orbit.specs.Cell.{Orbit, orbitAt, CellIn}

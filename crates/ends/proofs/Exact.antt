@@ -8,9 +8,9 @@ use Rattle.whole.proofs.Order.{le-parts}
 use Rattle.grid.specs.Grid.{one, T-units, depths}
 use Rattle.series.specs.Sine.{sine, Lo, Hi, den9, den10}
 use Rattle.series.proofs.Sums.{same, other}
-use Rattle.series.proofs.Range.{sine-divides}
-use Rattle.series.proofs.Truth.{den-pos}
-use Rattle.series.proofs.True.{Lo-true, Hi-true}
+use Rattle.series.proofs.SineTerms.{sine-divides}
+use Rattle.series.proofs.TermsTrue.{den-pos}
+use Rattle.series.proofs.BoundsTrue.{Lo-true, Hi-true}
 use Rattle.series.proofs.Width.{width-5}
 use Rattle.series.proofs.Next.{drop-last, add-last, S9-parts, S10-parts}
 use Rattle.orbit.specs.Cell.{Orbit, orbitAt, gridCell}

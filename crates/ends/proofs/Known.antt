@@ -16,8 +16,8 @@ use Rattle.series.specs.Bounds.{evens, odds, rawLow, rawHigh, greatestLow, leas
 use Rattle.series.specs.Exact.{num, ratio, S}
 use Rattle.series.specs.Sine.{sine, Lo, Hi, S9, den9}
 use Rattle.series.proofs.Sums.{same, other}
-use Rattle.series.proofs.Range.{sine-divides}
-use Rattle.series.proofs.Truth.{den-pos}
+use Rattle.series.proofs.SineTerms.{sine-divides}
+use Rattle.series.proofs.TermsTrue.{den-pos}
 use Rattle.series.proofs.Deeper.{Lo-rises}
 use Rattle.series.proofs.Next.{S9-parts}
 use Rattle.orbit.specs.Cell.{Orbit, orbitAt, gridCell, CellIn}

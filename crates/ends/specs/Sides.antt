@@ -6,7 +6,7 @@ use lib.Dec.{leb}
 use Rattle.grid.specs.Grid.{one, T-units, depths}
 use Rattle.grid.specs.Limits.{AngleIn}
 use Rattle.grid.specs.declared.Angle.{Angle}
-use Rattle.series.specs.Walk.{raise}
+use Rattle.series.specs.Walk.{bias}
 use Rattle.orbit.specs.Cell.{CellIn}
 use Rattle.orbit.specs.Given.{ProblemIn}
 use Rattle.orbit.specs.declared.Span.{Span}
@@ -34,14 +34,14 @@ pub record Fitting (s : Sides) (a : Span) (more less : ℕ) : Type 0 where
   pub right : s .right ≤ one * T-units
   pub down : a .down ≤ one
   pub up : a .up ≤ one
-  pub high : more ≤ 2 * raise
-  pub low : less ≤ 2 * raise
+  pub high : more ≤ 2 * bias
+  pub low : less ≤ 2 * bias
 
 -- left - right against more - less times every A of the span
 abbrev pub fitting : Sides → Span → ℕ → ℕ → Bool
 fitting s a more less = leb (s .left + a .up * (less - more)) (s .right + a .down * (more - less))
 
--- the test by a bound that was raised
+-- the test by a bound that is biased
 abbrev pub boundTest : Bool → Sides → Span → ℕ → Bool
-boundTest true s a bound = fitting s a raise bound
-boundTest false s a bound = fitting s a bound raise
+boundTest true s a bound = fitting s a bias bound
+boundTest false s a bound = fitting s a bound bias

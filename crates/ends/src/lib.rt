@@ -2,7 +2,7 @@
 ghost use mathlib.Core.Path.{_≡_};
 ghost use Prim.Native.Nat.{_≤_, _*_};
 ghost use mathlib.Core.Bool.{cond};
-ghost use Rattle.series.specs.Walk.{raise};
+ghost use Rattle.series.specs.Walk.{bias};
 ghost use Rattle.orbit.specs.Given.{grid};
 ghost use Rattle.ends.specs.Ends.{endAt, lowerEnd, upperEnd};
 ghost use Rattle.ends.specs.Entry.{endRule, lowerRule, upperRule, flagged};
@@ -50,23 +50,23 @@ fn fits(s: Sides, a: Span, more: u64, less: u64) -> bool
     }
 }
 
-// The end test by a bound of the sine, raised.
+// The end test by a bound of the sine, biased.
 fn by_bound(s: Sides, a: Span, bound: u64, upper: bool) -> bool
     requires { ⌜ Fitting s a bound bound ⌝ }
     ensures { λ r. ⌜ r ≡ boundTest upper s a bound ⌝ }
 {
     if upper {
-        fits(s, a, series::RAISE, bound)
+        fits(s, a, series::BIAS, bound)
     } else {
-        fits(s, a, bound, series::RAISE)
+        fits(s, a, bound, series::BIAS)
     }
 }
 
 // The bound that a test of an upper end goes by, or that of a lower end.
 fn bound_of(w: Walk, upper: bool) -> u64
-    ensures { λ r. ⌜ r ≡ cond upper (w .hi) (w .lo) ⌝ }
+    ensures { λ r. ⌜ r ≡ cond upper (w .least) (w .greatest) ⌝ }
 {
-    if upper { w.hi } else { w.lo }
+    if upper { w.least } else { w.greatest }
 }
 
 // The end test at a depth, settled at the first depth that settles it: one that accepts, or one whose other bound does not,
@@ -79,7 +79,7 @@ fn settle(p: Problem, x: Angle, upper: bool) -> bool
     let cell = p.cell;
     let a = cell.a;
     let s = sides_of(cell, x.units, upper);
-    let mut w = series::begin(x.units);
+    let mut w = series::begin(x.units, x.units);
     loop {
         w = series::further(w);
         if by_bound(s, a, bound_of(w, upper), upper) {

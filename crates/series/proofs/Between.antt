@@ -7,10 +7,10 @@ use Rattle.grid.specs.Grid.{T-units, depths}
 use Rattle.whole.proofs.Parts.{plus, minus, own, is-mul-right}
 use Rattle.whole.proofs.Order.{le-parts}
 use Rattle.series.specs.Sine.{sine, Lo, Hi, den9, den10}
-use Rattle.series.proofs.Range.{sine-divides}
-use Rattle.series.proofs.Truth.{den-pos}
+use Rattle.series.proofs.SineTerms.{sine-divides}
+use Rattle.series.proofs.TermsTrue.{den-pos}
 use Rattle.series.proofs.Next.{drop-last, S9-parts, S10-parts}
-use Rattle.series.proofs.True.{Lo-true, Hi-true}
+use Rattle.series.proofs.BoundsTrue.{Lo-true, Hi-true}
 
 pub Lo-le-Hi : (X d e : ℕ) → X ≤ T-units → d ≤ depths → e ≤ depths → Lo X d ≤ℤ Hi X e
 Lo-le-Hi X d e h k m =

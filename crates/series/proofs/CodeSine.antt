@@ -1,5 +1,5 @@
 -- The entry `sine`: its two checks in their order, and where both pass the bounds. Assumes nothing.
-use mathlib.Core.Path.{_≡_, sym, ap, ap₂, subst, _∙_}
+use mathlib.Core.Path.{_≡_, sym, ap, ap₂, _∙_}
 use mathlib.Core.List.{[], _∷_}
 use Prim.Native.Nat.{ℕ, _*_, _≤_}
 use lib.IntN.{ℤ, subℕ}
@@ -14,24 +14,25 @@ use Rattle.grid.specs.declared.CodedDepth.{CodedDepth}
 use Rattle.grid.proofs.Made.{angles, depths-made}
 use Rattle.grid.proofs.FirstCode.{CodeOf, goes, stops, passed, in-turn}
 use Rattle.grid.proofs.Fits.{limit-fits, depth-fits}
-use Rattle.series.specs.Sine.{Lo, Hi}
+use Rattle.series.specs.Sine.{sine, Lo, Hi}
 use Rattle.series.specs.Entry.{sineChecks, sineRefused, sineRule}
-use Rattle.series.specs.Walk.{raise, raisedBounds}
-use Rattle.series.specs.declared.Raised.{Raised}
+use Rattle.series.specs.Walk.{bias, biasedBounds}
+use Rattle.series.specs.declared.Biased.{Biased}
 use Rattle.series.specs.declared.SineBounds.{SineBounds}
-use Rattle.series.proofs.Sides.{Lo-within, Hi-within}
-use Rattle.series.proofs.Raising.{Inside, raised-small, lowered-back}
+use Rattle.series.proofs.CodeRange.{InBounds, Lo-within, Hi-within}
+use Rattle.series.proofs.CodeBias.{biased-small, unbiased-back}
 
 -- what the entry makes of its two numbers before it tests the code n
-pub record Made (x d n : ℕ) (a : CodedAngle) (b : CodedDepth) : Type 0 where
+pub record BothMade (x d n : ℕ) (a : CodedAngle) (b : CodedDepth) : Type 0 where
   pub angle : a ≡ codedAngle x
   pub depth : b ≡ codedDepth d
   pub code : n ≡ earlier (b .code) (a .code)
 
-module _ {x d n : ℕ} {a : CodedAngle} {b : CodedDepth} (m : Made x d n a b) where
+module _ {x d n : ℕ} {a : CodedAngle} {b : CodedDepth} (m : BothMade x d n a b) where
   code-is : CodeOf (sineChecks x d) n
   code-is =
-      m .code ∙ in-turn (depth-check d ∷ []) (x-check x ∷ []) tt _ _ (depths-made d .code-is b (m .depth)) (angles x .code-is a (m .angle))
+      m .code
+      ∙ in-turn (depth-check d ∷ []) (x-check x ∷ []) tt _ _ (depths-made d .code-is b (m .depth)) (angles x .code-is a (m .angle))
 
   pub refused : (n ≡ 0 → ⊥) → sineRefused n ≡ sineRule x d
   unfolding sineRule
@@ -51,31 +52,24 @@ module _ {x d n : ℕ} {a : CodedAngle} {b : CodedDepth} (m : Made x d n a b) wh
     angle-in = limit-fits x T-units bad-x (fit .1 .0)
 
     pub on-grid : AngleIn (a .angle) × DepthIn (b .depth)
-    on-grid = (
-      subst (λ (t : CodedAngle). AngleIn (t .angle)) (sym angle-is) (record { top = angle-in }),
-      subst (λ (t : CodedDepth). DepthIn (t .depth)) (sym depth-is) (depth-fits d (fit .0)),
-    )
+    on-grid = rw (angle-is, depth-is) (record { top = angle-in }, depth-fits d (fit .0))
 
-    module _ (r : Raised) (bounds : r ≡ raisedBounds (a .angle .units) (b .depth .pairs)) where
-      found : r ≡ raisedBounds x d
+    bounds-in : InBounds (Lo x d) × InBounds (Hi x d)
+    bounds-in = let few = depth-fits d (fit .0) .few in (Lo-within x d angle-in few, Hi-within x d angle-in few)
+
+    module _ (r : Biased) (bounds : r ≡ biasedBounds sine (a .angle .units) (b .depth .pairs)) where
+      found : r ≡ biasedBounds sine x d
       found =
           bounds
-          ∙ ap₂ raisedBounds (ap (λ (t : CodedAngle). t .angle .units) angle-is) (ap (λ (t : CodedDepth). t .depth .pairs) depth-is)
+          ∙ ap₂ (λ (s : CodedAngle) (t : CodedDepth). biasedBounds sine (s .angle .units) (t .depth .pairs)) angle-is depth-is
 
-      lo-in : Inside (Lo x d)
-      lo-in = Lo-within x d angle-in (depth-fits d (fit .0) .few)
+      pub small : (r .lo ≤ 2 * bias) × (r .hi ≤ 2 * bias)
+      small = rw found (biased-small _ (bounds-in .0), biased-small _ (bounds-in .1))
 
-      hi-in : Inside (Hi x d)
-      hi-in = Hi-within x d angle-in (depth-fits d (fit .0) .few)
-
-      pub small : (r .lo ≤ 2 * raise) × (r .hi ≤ 2 * raise)
-      small =
-          subst (λ (t : Raised). (t .lo ≤ 2 * raise) × (t .hi ≤ 2 * raise)) (sym found) (raised-small _ lo-in, raised-small _ hi-in)
-
-      pub answered : (lo hi : ℤ) → lo ≡ subℕ (r .lo) raise → hi ≡ subℕ (r .hi) raise →
+      pub answered : (lo hi : ℤ) → lo ≡ subℕ (r .lo) bias → hi ≡ subℕ (r .hi) bias →
           _≡_ {A = SineBounds} record { code = n; lo = toZ w64 (ofZ w64 lo); hi = toZ w64 (ofZ w64 hi) } (sineRule x d)
       unfolding sineRule
       answered lo hi e f =
-          let p = lowered-back lo (r .lo) _ e (ap (λ (t : Raised). t .lo) found) lo-in in
-          let q = lowered-back hi (r .hi) _ f (ap (λ (t : Raised). t .hi) found) hi-in in
+          let p = unbiased-back lo (r .lo) _ e (ap (λ (t : Biased). t .lo) found) (bounds-in .0) in
+          let q = unbiased-back hi (r .hi) _ f (ap (λ (t : Biased). t .hi) found) (bounds-in .1) in
           cc (p, q, none) ∙ sym (goes (sineChecks x d) fit sineRefused (record { code = 0; lo = Lo x d; hi = Hi x d }))

@@ -14,11 +14,11 @@ use Rattle.series.specs.Terms.{Series}
 use Rattle.series.specs.Exact.{num, ratio, den, even, S}
 use Rattle.series.specs.Sine.{sine}
 use Rattle.series.proofs.Sums.{same, other, Parted, S-parts}
-use Rattle.series.proofs.Range.{from-20}
+use Rattle.series.proofs.SineTerms.{from-20}
 
--- x^2 is at most every divisor but the first, multiplied out by 2^56
-abbrev pub Small : Series → ℕ → Type 0
-Small s X = (k : ℕ) → X * X ≤ ratio s (suc (suc k))
+-- the exact terms fall from term 1 on: x^2 is at most every divisor but the first, multiplied out by 2^56
+abbrev pub TermsFall : Series → ℕ → Type 0
+TermsFall s X = (k : ℕ) → X * X ≤ ratio s (suc (suc k))
 
 -- an even sum may fall and an odd one may rise
 abbrev pub Onward : Bool → ℤ → ℤ → Type 0
@@ -49,13 +49,13 @@ double d = even-far 0 d (2 * d) (omega arith)
 pub odd : (d : ℕ) → even (suc (2 * d)) ≡ false
 odd d = even-far 1 d (suc (2 * d)) (omega arith)
 
-module _ (s : Series) (X : ℕ) (small : Small s X) where
+module _ (s : Series) (X : ℕ) (fall : TermsFall s X) where
   -- two more terms: `same - other` doesn't grow
   pub pair : (n : ℕ) →
       same s X (suc (suc n)) + ratio s (suc n) * ratio s (suc (suc n)) * other s X n
       ≤ other s X (suc (suc n)) + ratio s (suc n) * ratio s (suc (suc n)) * same s X n
   unfolding same num
-  pair n = omega (arith, mul-le-mul-left (num s X (suc n)) (small n))
+  pair n = omega (arith, mul-le-mul-left (num s X (suc n)) (fall n))
 
   -- S_n against S_(n+2)
   pub falling : (n : ℕ) → Onward (even n) (S s X n *ℤ pos (ratio s (suc n) * ratio s (suc (suc n)))) (S s X (suc (suc n)))
@@ -100,22 +100,22 @@ module _ (s : Series) (X : ℕ) (small : Small s X) where
       rw (double i) at (far (2 * i) (k - i) (2 * k) (omega arith))
 
 -- sine's divisors from the second on are at least 20
-pub sine-small : (X : ℕ) → X * X ≤ 72057594037927936 * 20 → Small sine X
+pub sine-fall : (X : ℕ) → X * X ≤ 72057594037927936 * 20 → TermsFall sine X
 unfolding ratio
-sine-small X h k = le-trans h (mul-le-mul-left 72057594037927936 (from-20 k))
+sine-fall X h k = le-trans h (mul-le-mul-left 72057594037927936 (from-20 k))
 
 -- x^2 is at most 20 at every angle tested
 pub within-20 : (X : ℕ) → X ≤ T-units → X * X ≤ 72057594037927936 * 20
 within-20 X h = le-trans (mul-le-mul h h) (lit≤ {m = T-units * T-units} {n = 72057594037927936 * 20} tt)
 
-pub T-small : (X : ℕ) → X ≤ T-units → Small sine X
-T-small X h = sine-small X (within-20 X h)
+pub T-fall : (X : ℕ) → X ≤ T-units → TermsFall sine X
+T-fall X h = sine-fall X (within-20 X h)
 
 -- R9: the same of sine, while x^2 <= 20
 pub sine-odd-never-falls : (X i k : ℕ) → X * X ≤ 72057594037927936 * 20 → i ≤ k →
     (S sine X (suc (2 * i)) *ℤ pos (den sine (suc (2 * k)))) ≤ℤ (S sine X (suc (2 * k)) *ℤ pos (den sine (suc (2 * i))))
-sine-odd-never-falls X i k x = odd-never-falls sine X (sine-small X x) i k
+sine-odd-never-falls X i k x = odd-never-falls sine X (sine-fall X x) i k
 
 pub sine-even-never-rises : (X i k : ℕ) → X * X ≤ 72057594037927936 * 20 → i ≤ k →
     (S sine X (2 * k) *ℤ pos (den sine (2 * i))) ≤ℤ (S sine X (2 * i) *ℤ pos (den sine (2 * k)))
-sine-even-never-rises X i k x = even-never-rises sine X (sine-small X x) i k
+sine-even-never-rises X i k x = even-never-rises sine X (sine-fall X x) i k

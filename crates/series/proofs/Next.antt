@@ -7,8 +7,8 @@ use Rattle.whole.proofs.Parts.{Is}
 use Rattle.series.specs.Terms.{Series}
 use Rattle.series.specs.Exact.{ratio, den}
 use Rattle.series.specs.Sine.{sine, S9, S10}
-use Rattle.series.proofs.Range.{Divides}
-use Rattle.series.proofs.Truth.{ratio-pos}
+use Rattle.series.proofs.TermLimits.{Divides}
+use Rattle.series.proofs.TermsTrue.{ratio-pos}
 use Rattle.series.proofs.Sums.{same, other, S-parts}
 
 -- a S_(n+1) <= p - q gives a S_n <= p - q, for the odd n

@@ -29,8 +29,8 @@ Level s Y X n = Y * den s n + other s Y n + same s X n ≤ X * den s n + other s
 abbrev pub Rises : Series → ℕ → ℕ → ℕ → Type 0
 Rises s Y X n = Y * den s n + same s Y n + other s X n < X * den s n + same s X n + other s Y n
 
-module _ (s : Series) (Y X : ℕ) (above : Y < X) (more : s .first Y < s .first X)
-    (start : Y + s .first X ≤ X + s .first Y) (slow : (n : ℕ) → X * X + X * X ≤ ratio s (suc (suc n))) where
+module _ (s : Series) (Y X : ℕ) (above : Y < X) (more : s .term0 Y < s .term0 X)
+    (start : Y + s .term0 X ≤ X + s .term0 Y) (slow : (n : ℕ) → X * X + X * X ≤ ratio s (suc (suc n))) where
   squares : Y * Y ≤ X * X
   squares = mul-le-mul (omega arith) (omega arith)
 

@@ -12,7 +12,8 @@ use Rattle.whole.proofs.Round.{lt-down, up-lt, up-le}
 use Rattle.series.specs.Terms.{Series, Q-, Q+, l, u}
 use Rattle.series.specs.Bounds.{evens, odds, rawLow, rawHigh, greatestLow, leastHigh}
 use Rattle.series.specs.Sine.{sine, Lo, Hi}
-use Rattle.series.proofs.Range.{Divides, unit-pos, sine-divides, from-20, Q-within, l-within, u10-within}
+use Rattle.series.proofs.TermLimits.{Divides, unit-pos}
+use Rattle.series.proofs.SineTerms.{sine-divides, from-20, Q-within, l-within, u10-within}
 use Rattle.series.proofs.Deeper.{raw-le-greatest, least-le-raw}
 
 Q-gap : (X : ℕ) → Q+ X ≤ Q- X + 1
@@ -35,7 +36,7 @@ module _ (s : Series) (div : Divides s) (X : ℕ) where
       (lt-down (l s X k * Q- X) (one * s .divisor (suc k)) (unit-pos s div k))
       (up-lt (u s X k * Q+ X) (one * s .divisor (suc k)) (unit-pos s div k)) near (Q-gap X) room
 
-  pub gap : s .first X ≤ 2 * (one * s .divisor 1) →
+  pub gap : s .term0 X ≤ 2 * (one * s .divisor 1) →
       ((k : ℕ) → l s X (suc k) + 3 * Q+ X ≤ 2 * (one * s .divisor (suc (suc k)))) →
       (k : ℕ) → u s X k ≤ l s X k + 3
   unfolding l u

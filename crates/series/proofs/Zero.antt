@@ -10,8 +10,9 @@ use Rattle.whole.proofs.Round.{up-le}
 use Rattle.grid.specs.Grid.{one}
 use Rattle.series.specs.Terms.{l, u, Q+}
 use Rattle.series.specs.Sine.{sine, Lo, Hi}
-use Rattle.series.proofs.Range.{unit-pos, sine-divides, l-le-u}
-use Rattle.series.proofs.Sides.{Within, greatest-within, least-within}
+use Rattle.series.proofs.TermLimits.{unit-pos, l-le-u}
+use Rattle.series.proofs.SineTerms.{sine-divides}
+use Rattle.series.proofs.BoundLimits.{Bounded, greatest-within, least-within}
 
 u-zero : (k : ℕ) → u sine 0 k ≤ 0
 unfolding u
@@ -23,7 +24,7 @@ u-zero (suc k) =
 l-zero : (k : ℕ) → l sine 0 k ≤ 0
 l-zero k = le-trans (l-le-u sine sine-divides 0 k) (u-zero k)
 
-none : (n : ℕ) (z : ℤ) → Within (n * 0) z → z ≡ pos 0
+none : (n : ℕ) (z : ℤ) → Bounded (n * 0) z → z ≡ pos 0
 none n z w = let h = w .above in let k = w .below in one-number (shift (own z) (omega arith)) (is-pos 0)
 
 -- R57: 0 and 0 at any depth

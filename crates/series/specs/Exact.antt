@@ -6,7 +6,7 @@ use Rattle.series.specs.Terms.{Series}
 
 -- R8: 2^28 t_k is `num k / den k`; for sine num k is X^(2k+1)
 unfoldable pub num : Series → ℕ → ℕ → ℕ
-num s X zero = s .first X
+num s X zero = s .term0 X
 num s X (suc k) = num s X k * (X * X)
 
 -- R8: by what den grows from k - 1 to k: (2^28)^2 times the divisor

@@ -5,9 +5,9 @@ use Rattle.series.specs.Terms.{Series}
 use Rattle.series.specs.Bounds.{greatestLow, leastHigh}
 use Rattle.series.specs.Exact.{S, den}
 
--- R8, R11: first term X, divisor 2k(2k+1)
+-- R8, R11: term 0 is X, the divisor 2k(2k+1)
 abbrev pub sine : Series
-sine = record { first = λ X. X; divisor = λ k. 2 * k * (2 * k + 1) }
+sine = record { term0 = λ X. X; divisor = λ k. 2 * k * (2 * k + 1) }
 
 -- R13: sine's greatest raw low
 abbrev pub Lo : ℕ → ℕ → ℤ

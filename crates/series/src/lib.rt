@@ -3,16 +3,20 @@ ghost use mathlib.Core.Path.{_≡_};
 ghost use lib.IntN.{subℕ};
 ghost use Prim.Native.Nat.{suc, _*_, _≤_, max, min};
 ghost use Rattle.grid.specs.Grid.{one, T-units};
-ghost use Rattle.whole.specs.Round.{down, up};
 ghost use Rattle.grid.specs.Limits.{AngleIn, DepthIn};
-ghost use Rattle.series.specs.Walk.{Small, Walking, Unfinished, raise, walk, raisedBounds};
+ghost use Rattle.whole.specs.Round.{down, up};
+ghost use Rattle.series.specs.Sine.{sine};
+ghost use Rattle.series.specs.Walk.{bias, biasedBounds, walk, begun, deepened, term-limit, TermFits, PairFits, Unfinished};
 ghost use Rattle.series.specs.Entry.{sineRule};
 use grid::Angle;
 use grid::Depth;
 use grid::codes;
 
-// Lo and Hi, each raised by 2^34 and so never below 0.
-pub struct Raised {
+// 2^34, which is added to a bound so that it is never below 0.
+pub const BIAS: u64 = 17_179_869_184;
+
+// Lo and Hi, biased.
+pub struct Biased {
     pub lo: u64,
     pub hi: u64,
 }
@@ -25,30 +29,29 @@ pub struct SineBounds {
     pub hi: i64,
 }
 
-// The walk through the terms of the angle x, after `pairs` pairs of them.
+// The walk through the terms of a series at an angle, after `pairs` pairs of them.
 pub struct Walk {
-    pub x: u64,
+    pub angle: u64,
     pub pairs: u64,
-    // Q- and Q+
-    pub below: u64,
-    pub above: u64,
-    // the terms l and u numbered 2 pairs
-    pub l: u64,
-    pub u: u64,
-    // the raw bounds of this depth and the best so far, raised
+    // the square, rounded down and up: Q- and Q+
+    pub floor: u64,
+    pub ceiling: u64,
+    // the term numbered 2 pairs, rounded down and up: l and u
+    pub down: u64,
+    pub up: u64,
+    // the raw bounds of this depth, biased
     pub low: u64,
     pub high: u64,
-    pub lo: u64,
-    pub hi: u64,
+    // the greatest raw low and the least raw high so far, biased
+    pub greatest: u64,
+    pub least: u64,
 }
-
-pub const RAISE: u64 = 17_179_869_184;
 
 const ROUND: u64 = 268_435_455;
 
 // t q / (2^28 divisor), rounded down once: the shift's loss can't reach the next multiple.
 fn term_down(t: u64, q: u64, divisor: u64) -> u64
-    requires { ⌜ Small t q divisor ⌝ }
+    requires { ⌜ TermFits t q divisor ⌝ }
     ensures { λ r. ⌜ r ≡ down (t * q) (one * divisor) ⌝ }
 {
     ((t * q) >> 28) / divisor
@@ -56,29 +59,29 @@ fn term_down(t: u64, q: u64, divisor: u64) -> u64
 
 // The same, rounded up.
 fn term_up(t: u64, q: u64, divisor: u64) -> u64
-    requires { ⌜ Small t q divisor ⌝ }
+    requires { ⌜ TermFits t q divisor ⌝ }
     ensures { λ r. ⌜ r ≡ up (t * q) (one * divisor) ⌝ }
 {
     (((t * q + ROUND) >> 28) + (divisor - 1)) / divisor
 }
 
-// The walk before its first pair.
-pub fn begin(x: u64) -> Walk
-    requires { ⌜ x ≤ T-units ⌝ }
-    ensures { λ r. ⌜ r ≡ walk x 0 ⌝ }
+// The walk before its first pair, of a series whose term 0 at the angle x is given.
+pub fn begin(x: u64, term0: u64) -> Walk
+    requires { ⌜ (x ≤ T-units) × (term0 ≤ term-limit) ⌝ }
+    ensures { λ r. ⌜ r ≡ begun x term0 ⌝ }
 {
     let square = x * x;
     Walk {
-        x,
+        angle: x,
         pairs: 0,
-        below: square >> 28,
-        above: (square + ROUND) >> 28,
-        l: x,
-        u: x,
-        low: RAISE,
-        high: RAISE + x,
-        lo: 0,
-        hi: 2 * RAISE,
+        floor: square >> 28,
+        ceiling: (square + ROUND) >> 28,
+        down: term0,
+        up: term0,
+        low: BIAS,
+        high: BIAS + term0,
+        greatest: 0,
+        least: 2 * BIAS,
     }
 }
 
@@ -95,77 +98,67 @@ fn lesser(a: u64, b: u64) -> u64
 }
 
 // One pair of terms further, with the divisors of the odd-numbered and the even-numbered one.
-fn deepen(s: Walk, odd: u64, even: u64) -> Walk
-    requires { ⌜ Walking s odd even ⌝ }
-    ensures { λ r. ⌜ r ≡ walk (s .x) (suc (s .pairs)) ⌝ }
+fn deepen(w: Walk, odd: u64, even: u64) -> Walk
+    requires { ⌜ PairFits w odd even ⌝ }
+    ensures { λ r. ⌜ r ≡ deepened w odd even ⌝ }
 {
-    let l1 = term_down(s.l, s.below, odd);
-    let u1 = term_up(s.u, s.above, odd);
-    let l2 = term_down(l1, s.below, even);
-    let u2 = term_up(u1, s.above, even);
-    let low = s.low + s.l - u1;
-    let high = s.high + u2 - l1;
+    let odd_down = term_down(w.down, w.floor, odd);
+    let odd_up = term_up(w.up, w.ceiling, odd);
+    let even_down = term_down(odd_down, w.floor, even);
+    let even_up = term_up(odd_up, w.ceiling, even);
+    let low = w.low + w.down - odd_up;
+    let high = w.high + even_up - odd_down;
     Walk {
-        x: s.x,
-        pairs: s.pairs + 1,
-        below: s.below,
-        above: s.above,
-        l: l2,
-        u: u2,
+        angle: w.angle,
+        pairs: w.pairs + 1,
+        floor: w.floor,
+        ceiling: w.ceiling,
+        down: even_down,
+        up: even_up,
         low,
         high,
-        lo: greater(s.lo, low),
-        hi: lesser(s.hi, high),
+        greatest: greater(w.greatest, low),
+        least: lesser(w.least, high),
     }
 }
 
-// The next pair of terms. Each pair's divisors stand in its own arm, so that the quotients are products.
-pub fn further(s: Walk) -> Walk
-    requires { ⌜ Unfinished s ⌝ }
-    ensures { λ r. ⌜ r ≡ walk (s .x) (suc (s .pairs)) ⌝ }
+// The next pair of sine's terms. Each pair's divisors stand in its own arm, so that the quotients are products.
+pub fn further(w: Walk) -> Walk
+    requires { ⌜ Unfinished w ⌝ }
+    ensures { λ r. ⌜ r ≡ walk sine (w .angle) (suc (w .pairs)) ⌝ }
 {
-    let n = s.pairs;
+    let n = w.pairs;
     match n {
-        0 => deepen(s, 6, 20),
-        1 => deepen(s, 42, 72),
-        2 => deepen(s, 110, 156),
-        3 => deepen(s, 210, 272),
-        _ => deepen(s, 342, 420),
+        0 => deepen(w, 6, 20),
+        1 => deepen(w, 42, 72),
+        2 => deepen(w, 110, 156),
+        3 => deepen(w, 210, 272),
+        _ => deepen(w, 342, 420),
     }
 }
 
-// Lo and Hi, raised. The pairs stand one after the other, each with its divisors, which is faster than a choice for each.
-fn bounds_at(x: Angle, d: Depth) -> Raised
+// Lo and Hi, biased.
+fn bounds_at(x: Angle, d: Depth) -> Biased
     requires { ⌜ AngleIn x × DepthIn d ⌝ }
-    ensures { λ r. ⌜ r ≡ raisedBounds (x .units) (d .pairs) ⌝ }
+    ensures { λ r. ⌜ r ≡ biasedBounds sine (x .units) (d .pairs) ⌝ }
 {
-    let n = d.pairs;
-    let mut s = deepen(begin(x.units), 6, 20);
-    if n == 1 {
-        return Raised { lo: s.lo, hi: s.hi };
+    let depth = d.pairs as u64;
+    let mut w = begin(x.units, x.units);
+    while w.pairs < depth {
+        w = further(w);
     }
-    s = deepen(s, 42, 72);
-    if n == 2 {
-        return Raised { lo: s.lo, hi: s.hi };
+    Biased {
+        lo: w.greatest,
+        hi: w.least,
     }
-    s = deepen(s, 110, 156);
-    if n == 3 {
-        return Raised { lo: s.lo, hi: s.hi };
-    }
-    s = deepen(s, 210, 272);
-    if n == 4 {
-        return Raised { lo: s.lo, hi: s.hi };
-    }
-    s = deepen(s, 342, 420);
-    Raised { lo: s.lo, hi: s.hi }
 }
 
-// The signed number that was raised.
-fn lowered(raised: u64) -> i64
-    requires { ⌜ raised ≤ 2 * raise ⌝ }
-    ensures { λ r. ⌜ r ≡ subℕ raised raise ⌝ }
+// The signed number that was biased.
+fn unbiased(biased: u64) -> i64
+    requires { ⌜ biased ≤ 2 * bias ⌝ }
+    ensures { λ r. ⌜ r ≡ subℕ biased bias ⌝ }
 {
-    (raised as i64) - (RAISE as i64)
+    (biased as i64) - (BIAS as i64)
 }
 
 // Lo and Hi of an angle of x units at a depth, or the code of what is out of limits: 3, then 10.
@@ -178,10 +171,10 @@ pub fn sine(x: u32, depth: u32) -> SineBounds
     if code != codes::DONE {
         return SineBounds { code, lo: 0, hi: 0 };
     }
-    let b = bounds_at(made_angle.angle, made_depth.depth);
+    let bounds = bounds_at(made_angle.angle, made_depth.depth);
     SineBounds {
         code,
-        lo: lowered(b.lo),
-        hi: lowered(b.hi),
+        lo: unbiased(bounds.lo),
+        hi: unbiased(bounds.hi),
     }
 }

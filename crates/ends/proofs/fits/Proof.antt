@@ -7,12 +7,12 @@ use native.Mathlib.Nat.{mul-le-mul}
 use lib.Dec.{leb}
 use borrow.Author.Needs.{needs}
 use Rattle.grid.specs.Grid.{one}
-use Rattle.series.specs.Walk.{raise}
+use Rattle.series.specs.Walk.{bias}
 use Rattle.ends.proofs.fits.Statement.{statement}
 use Rattle.ends.proofs.fits.Tie as tie
 
-product : (a p q : ℕ) → a ≤ one → p ≤ 2 * raise → a * (p - q) ≤ one * (2 * raise)
-product a p q h k = let d : p - q ≤ 2 * raise = omega arith in mul-le-mul h d
+product : (a p q : ℕ) → a ≤ one → p ≤ 2 * bias → a * (p - q) ≤ one * (2 * bias)
+product a p q h k = let d : p - q ≤ 2 * bias = omega arith in mul-le-mul h d
 
 -- the difference the other way round adds nothing
 nothing : (n a p q : ℕ) → p ≤ q → n ≡ n + a * (p - q)

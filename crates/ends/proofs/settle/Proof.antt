@@ -8,9 +8,10 @@ use borrow.Author.Needs.{needs}
 use borrow.Author.Tests.{not-true}
 use Rattle.whole.proofs.Bools.{passed, passes}
 use Rattle.grid.specs.Grid.{depths}
+use Rattle.series.specs.Sine.{sine}
 use Rattle.series.specs.Walk.{walk}
 use Rattle.series.specs.declared.Walk.{Walk}
-use Rattle.series.proofs.Depths.{unfinished, onward, own-pairs, walked-own}
+use Rattle.series.proofs.CodeWalk.{begins, unfinished, onward, own-pairs, walked-own}
 use Rattle.ends.specs.Ends.{endAt}
 use Rattle.ends.specs.Sides.{Fitting, boundTest}
 use Rattle.ends.specs.declared.Sides.{Sides}
@@ -20,23 +21,26 @@ use Rattle.ends.proofs.settle.Statement.{statement}
 use Rattle.ends.proofs.settle.Tie as tie
 
 abbrev Inv-loop : tie.InvT-loop
-Inv-loop upper depth a s w₀ w = (w ≡ walk (w₀ .x) (w .pairs)) × (w .pairs < depth)
+Inv-loop upper depth a s w₀ w = (w ≡ walk sine (w₀ .angle) (w .pairs)) × (w .pairs < depth)
 
 abbrev μ-loop : tie.MeasureT-loop
 μ-loop upper depth a s w₀ w = depth - w .pairs
 
--- the walk begins at the angle asked for
-x-is : (c : tie.After-begin Inv-loop μ-loop) → c .begin .result .x ≡ c .before .before .before .before .before .args .x .units
-x-is c = ap (λ (t : Walk). t .x) (c .begin .ensures)
+-- the walk begins at the angle asked for, as sine's
+started : (c : tie.After-begin Inv-loop μ-loop) → c .begin .result ≡ walk sine (c .before .before .before .before .before .args .x .units) 0
+started c = c .begin .ensures ∙ begins sine _
+
+x-is : (c : tie.After-begin Inv-loop μ-loop) → c .begin .result .angle ≡ c .before .before .before .before .before .args .x .units
+x-is c = ap (λ (t : Walk). t .angle) (started c)
 
 -- after a turn's step it has come one pair further
 stepped : (c : tie.After-further Inv-loop μ-loop)
-    → c .further .result ≡ walk (c .before .before .begin .result .x) (suc (c .before .loop .w .pairs))
+    → c .further .result ≡ walk sine (c .before .before .begin .result .angle) (suc (c .before .loop .w .pairs))
 stepped c = onward _ _ _ (c .before .loop .inv .0) _ (c .further .ensures)
 
 next : (c : tie.After-further Inv-loop μ-loop)
-    → c .further .result ≡ walk (c .before .before .before .before .before .before .before .args .x .units) (suc (c .before .loop .w .pairs))
-next c = stepped c ∙ ap (λ (x : ℕ). walk x (suc (c .before .loop .w .pairs))) (x-is (c .before .before))
+    → c .further .result ≡ walk sine (c .before .before .before .before .before .before .before .args .x .units) (suc (c .before .loop .w .pairs))
+next c = stepped c ∙ ap (λ (x : ℕ). walk sine x (suc (c .before .loop .w .pairs))) (x-is (c .before .before))
 
 pairs-is : (c : tie.After-further Inv-loop μ-loop) → c .further .result .pairs ≡ suc (c .before .loop .w .pairs)
 pairs-is c = ap (λ (t : Walk). t .pairs) (next c)
@@ -45,7 +49,7 @@ few : (c : tie.After-further Inv-loop μ-loop) → suc (c .before .loop .w .pair
 few c = omega (arith, c .before .loop .inv .1, c .before .before .before .before .before .before .before .pre .problem .depth .few)
 
 -- either test of the loop may be made
-fitting : (c : tie.After-further Inv-loop μ-loop) (upper : Bool) (b : ℕ) → b ≡ cond upper (c .further .result .hi) (c .further .result .lo)
+fitting : (c : tie.After-further Inv-loop μ-loop) (upper : Bool) (b : ℕ) → b ≡ cond upper (c .further .result .least) (c .further .result .greatest)
     → Fitting (c .before .before .before .sides-of .result) (c .before .before .before .before .before .before .before .args .p .cell .a) b b
 fitting c upper b e =
     let s = c .before .before .before .before .before .before .before in
@@ -73,12 +77,12 @@ sides-of-requires : tie.Need-sides-of-requires Inv-loop μ-loop
 sides-of-requires c κs = let p = c .before .before .before .pre in record { cell = p .problem .cell; angle = p .angle .top }
 
 begin-requires : tie.Need-begin-requires Inv-loop μ-loop
-begin-requires c κs = c .before .before .before .before .pre .angle .top
+begin-requires c κs = let h = c .before .before .before .before .pre .angle .top in (h, omega arith)
 
 loop-holds : tie.Need-loop-holds Inv-loop μ-loop
 loop-holds c =
-    let f = ap (λ (t : Walk). t .pairs) (c .begin .ensures) in
-    (walked-own _ _ _ (c .begin .ensures), omega (arith, c .before .before .before .before .before .pre .problem .depth .some))
+    let f = ap (λ (t : Walk). t .pairs) (started c) in
+    (walked-own _ _ _ (started c), omega (arith, c .before .before .before .before .before .pre .problem .depth .some))
 
 further-requires : tie.Need-further-requires Inv-loop μ-loop
 further-requires c κs =

@@ -1,28 +1,24 @@
 -- `series::begin` meets its contract: what the walk is before its first pair. Assumes nothing.
 use native.Mathlib.Omega.{arith}
-use native.Mathlib.Nat.{mul-le-mul, zero-add, sub-zero}
+use native.Mathlib.Nat.{mul-le-mul}
 use borrow.Author.Needs.{needs}
-use Rattle.series.specs.Terms.{l, u}
-use Rattle.series.specs.Bounds.{evens, odds}
-use Rattle.series.specs.Walk.{bestLow, bestHigh}
 use Rattle.series.proofs.begin.Statement.{statement}
 use Rattle.series.proofs.begin.Tie as tie
 
 mul-square : tie.Need-mul-square
-mul-square c = omega (arith, mul-le-mul (c .pre) (c .pre))
+mul-square c = omega (arith, mul-le-mul (c .pre .0) (c .pre .0))
 
-add-t4 : tie.Need-add-t4
-add-t4 c = omega (arith, mul-le-mul (c .pre) (c .pre))
+add-t5 : tie.Need-add-t5
+add-t5 c = omega (arith, mul-le-mul (c .pre .0) (c .pre .0))
 
-add-t6 : tie.Need-add-t6
-add-t6 c = search needs
+add-t7 : tie.Need-add-t7
+add-t7 c = search needs
 
-mul-t7 : tie.Need-mul-t7
-mul-t7 c = search needs
+mul-t8 : tie.Need-mul-t8
+mul-t8 c = search needs
 
 returns : tie.Need-returns
-unfolding l u evens odds bestLow bestHigh
-returns c = simp (zero-add, sub-zero)
+returns c = search needs
 
 pub begin-spec : {M : Type 1} → statement M
-begin-spec = tie.close (tie.spec mul-square add-t4 add-t6 mul-t7 returns)
+begin-spec = tie.close (tie.spec mul-square add-t5 add-t7 mul-t8 returns)

@@ -11,9 +11,9 @@ use Rattle.series.specs.Terms.{Series, l, u}
 use Rattle.series.specs.Bounds.{evens, odds, rawLow, rawHigh}
 use Rattle.series.specs.Exact.{num, ratio, den, even, S}
 use Rattle.series.proofs.Sums.{same, other, Parted, S-parts}
-use Rattle.series.proofs.Range.{Divides}
-use Rattle.series.proofs.Truth.{Order, Least, upward, downward, l-true, u-true, den-pos}
-use Rattle.series.proofs.Falling.{Small, Onward, onward, parted-mul, even-far, double, odd, far-parts}
+use Rattle.series.proofs.TermLimits.{Divides}
+use Rattle.series.proofs.TermsTrue.{Order, Least, upward, downward, l-true, u-true, den-pos}
+use Rattle.series.proofs.Falling.{TermsFall, Onward, onward, parted-mul, even-far, double, odd, far-parts}
 
 -- sums with no parity in them, as `same` and `other`: of f n, f (n-2), .. and of f (n-1), f (n-3), ..
 unfoldable mutual
@@ -51,13 +51,13 @@ module _ (R : ℕ → ℕ → Type 0) (o : Order R) (s : Series) (X : ℕ) (f : 
         subst (λ (k : ℕ). R k (same s X n * r)) b (o .times (i .0) (o .itself r)),
       )
 
-module _ (s : Series) (div : Divides s) (X : ℕ) (small : Small s X) where
+module _ (s : Series) (div : Divides s) (X : ℕ) (fall : TermsFall s X) where
   bound-parts : (n j m : ℕ) → m ≡ n + 2 * j →
       same s X m + den s m * others (l s X) n ≤ other s X m + den s m * sames (u s X) n
   bound-parts n j m e =
       let a = sums-true _≤_ upward s X (l s X) (l-true s X) n .1 in
       let b = sums-true Least downward s X (u s X) (u-true s div X) n .0 in
-      let c = far-parts s X small n j m e in
+      let c = far-parts s X fall n j m e in
       le-of-mul-le-mul-left {k = den s n}
       (omega (arith, mul-le-mul-left (den s m) a, mul-le-mul-left (den s m) b)) (den-pos s div n)
 

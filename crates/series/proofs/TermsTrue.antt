@@ -8,7 +8,7 @@ use Rattle.grid.specs.Grid.{one}
 use Rattle.whole.proofs.Round.{down-le, le-up}
 use Rattle.series.specs.Terms.{Series, Q-, Q+, l, u}
 use Rattle.series.specs.Exact.{num, ratio, den}
-use Rattle.series.proofs.Range.{Divides, unit-pos}
+use Rattle.series.proofs.TermLimits.{Divides, unit-pos}
 
 -- what `≤` and its opposite share
 pub record Order (R : ℕ → ℕ → Type 0) : Type 0 where
@@ -28,7 +28,7 @@ downward = record { itself = le-refl; along = λ h k. le-trans k h; plus = add-l
 
 -- terms f, made from Q as l is from Q- and u from Q+, before they are rounded
 pub record Made (R : ℕ → ℕ → Type 0) (s : Series) (X Q : ℕ) (f : ℕ → ℕ) : Type 0 where
-  pub start : R (f zero) (s .first X)
+  pub start : R (f zero) (s .term0 X)
   pub square : R (Q * one) (X * X)
   pub next : (k : ℕ) → R (f (suc k) * (one * s .divisor (suc k))) (f k * Q)
 
@@ -36,7 +36,7 @@ pub l-made : (s : Series) (X : ℕ) → Made _≤_ s X (Q- X) (l s X)
 unfolding l
 l-made s X =
     record {
-      start = le-refl (s .first X);
+      start = le-refl (s .term0 X);
       square = down-le (X * X) one;
       next = λ k. down-le (l s X k * Q- X) (one * s .divisor (suc k));
     }
@@ -45,7 +45,7 @@ pub u-made : (s : Series) → Divides s → (X : ℕ) → Made Least s X (Q+ X) 
 unfolding u
 u-made s div X =
     record {
-      start = le-refl (s .first X);
+      start = le-refl (s .term0 X);
       square = le-up (X * X) one (lit< tt);
       next = λ k. le-up (u s X k * Q+ X) (one * s .divisor (suc k)) (unit-pos s div k);
     }
@@ -63,7 +63,7 @@ module _ (R : ℕ → ℕ → Type 0) (o : Order R) (s : Series) (X Q : ℕ) (f 
 
   pub terms-true : (k : ℕ) → R (f k * den s k) (num s X k)
   unfolding den num
-  terms-true zero = let a : f zero ≡ f zero * 1 = omega arith in subst (λ (n : ℕ). R n (s .first X)) a (m .start)
+  terms-true zero = let a : f zero ≡ f zero * 1 = omega arith in subst (λ (n : ℕ). R n (s .term0 X)) a (m .start)
   terms-true (suc k) = step k (terms-true k)
 
 -- l_k ≤ 2^28 t_k ≤ u_k, multiplied out
