@@ -7,20 +7,12 @@ use lib.ListN.{getD}
 use Rattle.grid.specs.Grid.{N-units}
 use Rattle.grid.proofs.Each.{of-answer}
 use Rattle.judge.specs.Judge.{judgeRule}
-use Rattle.judge.specs.Verdict.{verdictNumber}
 use Rattle.judge.specs.declared.Judged.{Judged}
-use Rattle.judge.specs.declared.Verdict.{Verdict}
-use Rattle.judge.specs.declared.Verdict.the-variants.{Confirmed, Refuted, Undecided}
 use Rattle.judge.proofs.Small.{of-judged}
 use Rattle.little.proofs.Digits.{little-small}
 use Rattle.claims.specs.Record.{reserved-check, byteOf, claimAt, answerAt}
 use Rattle.claims.specs.AnswerByte.{AnswerByte, verdict, of-reserved, of-m, of-a, of-depth, of-estimate}
 use Rattle.claims.specs.declared.form.Form.{Form}
-
-of-verdict : (v : Verdict) → AnswerByte (byteOf (record { code = 0; verdict = verdictNumber v }))
-of-verdict Confirmed = verdict Confirmed
-of-verdict Refuted = verdict Refuted
-of-verdict Undecided = verdict Undecided
 
 -- of any form whose tolerances have two bytes
 module _ (form : Form) (two : form .n .bytes ≡ 2) (bytes : List ℕ) (small : (k : ℕ) → getD bytes k 0 < 256) (i : ℕ) where
@@ -35,4 +27,4 @@ module _ (form : Form) (two : form .n .bytes ≡ 2) (bytes : List ℕ) (small : 
       (reserved-check form bytes (i * form .width) ∷ []) (λ t. of-reserved, tt)
       (λ p.
       of-judged (λ (j : Judged). AnswerByte (byteOf j)) (claimAt form bytes i) of-m of-a of-depth
-      of-estimate (λ h. absurd (let k : ⊥ = let g = n-fits in omega arith in k)) of-verdict)
+      of-estimate (λ h. absurd (let k : ⊥ = let g = n-fits in omega arith in k)) verdict)

@@ -22,12 +22,12 @@ twenty =
 abbrev pub valueOf : List ℕ → ℕ → Field → ℕ
 valueOf bytes start f = littleEndian bytes (start + f .at) (f .bytes)
 
--- a field that lies within so many bytes, and has at most so many
+-- R49: a field that lies within a record's width, and has at most so many bytes
 pub record FieldIn (width most : ℕ) (f : Field) : Type 0 where
   pub inside : f .at + f .bytes ≤ width
   pub narrow : f .bytes ≤ most
 
--- a form that can be read: every field lies in the record, and fits the number that it is read to
+-- R49: a form that can be read: every field lies in the record, and fits the number that it is read to
 pub record FormIn (form : Form) : Type 0 where
   pub some : 0 < form .width
   pub m : FieldIn (form .width) 4 (form .m)

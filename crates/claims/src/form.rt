@@ -1,4 +1,6 @@
-// R49: the form of a claim's record, as a value: its width, and where its fields stand.
+// R49: the form of a claim's record, as a value that code and definitions share: its width, and where its fields stand.
+
+// The first byte of a field, and how many it has.
 pub struct Field {
     pub at: usize,
     pub bytes: usize,
@@ -14,6 +16,7 @@ pub struct Form {
     pub reserved: Field,
 }
 
+// The record of 20 bytes.
 pub const TWENTY: Form = Form {
     width: 20,
     m: Field { at: 0, bytes: 4 },

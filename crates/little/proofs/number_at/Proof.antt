@@ -16,8 +16,6 @@ use Rattle.little.specs.LittleEndian.{littleEndian}
 use Rattle.little.proofs.Digits.{one-more, little-small}
 use Rattle.little.proofs.number_at.Statement.{statement}
 use Rattle.little.proofs.number_at.Tie as tie
-use Rattle.little.proofs.number_at.Reads as reads
-use Rattle.little.proofs.number_at.Lts as lts
 
 -- a byte of a word, shifted to its place, loses no bit, and the sum fits the word
 module _ (bytes : List ℕ) (given : (k : ℕ) → Fits w8 (getD bytes k 0)) (at i : ℕ) (fits : i + 1 ≤ 8) where
