@@ -1,11 +1,11 @@
 -- Little-endian numbers digit by digit: a byte more, and how large they can be. Assumes nothing.
 use mathlib.Core.Path.{_≡_}
 use mathlib.Core.List.{List}
-use Prim.Native.Nat.{ℕ, zero, suc, _+_, _*_, _^_, _<_}
-use native.Mathlib.Nat.{add-zero}
+use Prim.Native.Nat.{ℕ, zero, suc, _+_, _*_, _^_, _≤_, _<_}
+use native.Mathlib.Nat.{add-zero, lt-of-lt-of-le}
 use native.Mathlib.Omega.{arith}
 use lib.ListN.{getD}
-use lib.Pow.{pow-add}
+use lib.Pow.{pow-add, pow-mono}
 use Rattle.little.specs.LittleEndian.{littleEndian}
 
 -- eight bits more
@@ -34,3 +34,7 @@ little-small bytes small at (suc width) =
     let byte = small at in
     let rest = little-small bytes small (at + 1) width in
     rw eight-more (omega arith)
+
+-- and fit a word of as many bits
+pub little-fits : (bytes : List ℕ) → ((i : ℕ) → getD bytes i 0 < 256) → (at width bits : ℕ) → 8 * width ≤ bits → littleEndian bytes at width < 2 ^ bits
+little-fits bytes small at width bits h = lt-of-lt-of-le (little-small bytes small at width) (pow-mono h)

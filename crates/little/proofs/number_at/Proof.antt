@@ -3,29 +3,24 @@
 use borrow.Author.Needs.{needs}
 use mathlib.Core.Path.{_≡_, sym, ap, _∙_}
 use mathlib.Core.List.{List}
-use Prim.Native.Nat.{ℕ, _+_, _-_, _*_, _^_, _%_, _≤_, _<_}
-use native.Mathlib.Nat.{lt-of-lt-of-le, le-antisymm}
+use Prim.Native.Nat.{ℕ, _+_, _-_, _*_, _^_, _%_, _≤_}
+use native.Mathlib.Nat.{le-antisymm}
 use native.Mathlib.Omega.{arith}
 use native.Mathlib.Numerals.{add-one}
 use lib.ListN.{getD}
 use mir.Syntax.{w8}
 use mir.Val.{Fits}
-use lib.Pow.{pow-mono, shl-exact}
+use lib.Pow.{shl-exact}
 use denote.Ref.{now}
 use Rattle.little.specs.LittleEndian.{littleEndian}
-use Rattle.little.proofs.Digits.{one-more, little-small}
+use Rattle.little.proofs.Digits.{one-more, little-fits}
 use Rattle.little.proofs.number_at.Statement.{statement}
 use Rattle.little.proofs.number_at.Tie as tie
 
--- a byte of a word, shifted to its place, loses no bit, and the sum fits the word
-module _ (bytes : List ℕ) (given : (k : ℕ) → Fits w8 (getD bytes k 0)) (at i : ℕ) (fits : i + 1 ≤ 8) where
-  shifted : littleEndian bytes at i + (getD bytes (at + i) 0 * 2 ^ (8 * i)) % 2 ^ 64 ≡ littleEndian bytes at (i + 1)
-  shifted =
-      rw (shl-exact {a = getD bytes (at + i) 0} 8 (8 * i) 64 (given (at + i) .fits) (omega arith), add-one)
-      (sym (one-more bytes at i))
-
-  word : littleEndian bytes at (i + 1) < 2 ^ 64
-  word = lt-of-lt-of-le (little-small bytes (λ k. given k .fits) at (i + 1)) (pow-mono {j = 64} (omega arith))
+-- a byte that is shifted to its place in a word loses no bit
+shifted : (bytes : List ℕ) (at i : ℕ) → Fits w8 (getD bytes (at + i) 0) → i + 1 ≤ 8
+    → littleEndian bytes at i + (getD bytes (at + i) 0 * 2 ^ (8 * i)) % 2 ^ 64 ≡ littleEndian bytes at (i + 1)
+shifted bytes at i byte h = rw (shl-exact {a = getD bytes (at + i) 0} 8 (8 * i) 64 (byte .fits) (omega arith), add-one) (sym (one-more bytes at i))
 
 abbrev Inv-loop : tie.InvT-loop
 Inv-loop bytes at width number₀ i₀ number i = (i ≤ width) × (number ≡ littleEndian bytes at i)
@@ -59,7 +54,8 @@ add-number c =
     let a = c .before .before .before .args in
     let l = c .before .before .loop in
     let given = c .shared-slice-known .given in
-    record { fits = rw (l .inv .1, shifted (now (a .bytes)) given (a .at) (l .i) (omega arith)) (word (now (a .bytes)) given (a .at) (l .i) (omega arith)) }
+    let fits = little-fits (now (a .bytes)) (λ k. given k .fits) (a .at) (l .i + 1) 64 (omega arith) in
+    record { fits = rw (l .inv .1, shifted (now (a .bytes)) (a .at) (l .i) (given _) (omega arith)) fits }
 
 add-i : tie.Need-add-i Inv-loop μ-loop
 add-i c = search needs
@@ -71,7 +67,7 @@ loop-again : tie.Need-loop-again Inv-loop μ-loop
 loop-again c =
     let a = c .before .before .before .args in
     let l = c .before .before .loop in
-    (omega arith, rw (l .inv .1) (shifted (now (a .bytes)) (c .shared-slice-known .given) (a .at) (l .i) (omega arith)))
+    (omega arith, rw (l .inv .1) (shifted (now (a .bytes)) (a .at) (l .i) (c .shared-slice-known .given _) (omega arith)))
 
 returns : tie.Need-returns Inv-loop μ-loop
 returns c =

@@ -1,11 +1,9 @@
 -- `claims::record::word_of` meets its contract: four bytes hold no number that loses bits. Assumes nothing.
 use borrow.Author.Needs.{needs}
 use Prim.Native.Nat.{_+_}
-use native.Mathlib.Nat.{lt-of-lt-of-le}
 use native.Mathlib.Omega.{arith}
-use lib.Pow.{pow-mono}
 use denote.Ref.{now}
-use Rattle.little.proofs.Digits.{little-small}
+use Rattle.little.proofs.Digits.{little-fits}
 use Rattle.claims.proofs.record.word_of.Statement.{statement}
 use Rattle.claims.proofs.record.word_of.Tie as tie
 
@@ -15,8 +13,9 @@ value-of-requires c κs = search needs
 cast-result : tie.Need-cast-result
 cast-result c =
     let a = c .before .before .args in
-    let least = little-small (now (a .claims)) (λ k. c .before .shared-slice-known .given k .fits) (a .start + a .field .at) (a .field .bytes) in
-    rw (c .value-of .ensures) (record { fits = lt-of-lt-of-le least (pow-mono {j = 32} (omega arith)) })
+    let given = c .before .shared-slice-known .given in
+    let fits = little-fits (now (a .claims)) (λ k. given k .fits) (a .start + a .field .at) (a .field .bytes) 32 (omega arith) in
+    rw (c .value-of .ensures) (record { fits = fits })
 
 returns : tie.Need-returns
 returns c = search needs
