@@ -21,7 +21,7 @@ unfolding upTo
 length-upTo f zero = refl
 length-upTo f (suc n) = simp length-append (let h = length-upTo f n in omega arith)
 
-pub upTo-at : (f : ℕ → ℕ) (n i : ℕ) → i < n → getD (upTo f n) i 0 ≡ f i
+upTo-at : (f : ℕ → ℕ) (n i : ℕ) → i < n → getD (upTo f n) i 0 ≡ f i
 unfolding upTo
 upTo-at f zero i h = absurd (let k : ⊥ = omega arith in k)
 upTo-at f (suc n) i h =

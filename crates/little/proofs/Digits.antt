@@ -26,15 +26,16 @@ one-more bytes at (suc width) =
     let rest = one-more bytes (at + 1) width in
     rw (eight-more, ← later) (omega arith)
 
--- so many bytes hold no greater number
-pub little-small : (bytes : List ℕ) → ((i : ℕ) → getD bytes i 0 < 256) → (at width : ℕ) → littleEndian bytes at width < 2 ^ (8 * width)
-unfolding littleEndian
-little-small bytes small at zero = omega arith
-little-small bytes small at (suc width) =
-    let byte = small at in
-    let rest = little-small bytes small (at + 1) width in
-    rw eight-more (omega arith)
+module _ (bytes : List ℕ) (small : (i : ℕ) → getD bytes i 0 < 256) where
+  -- so many bytes hold no greater number
+  pub little-small : (at width : ℕ) → littleEndian bytes at width < 2 ^ (8 * width)
+  unfolding littleEndian
+  little-small at zero = omega arith
+  little-small at (suc width) =
+      let byte = small at in
+      let rest = little-small (at + 1) width in
+      rw eight-more (omega arith)
 
--- and fit a word of as many bits
-pub little-fits : (bytes : List ℕ) → ((i : ℕ) → getD bytes i 0 < 256) → (at width bits : ℕ) → 8 * width ≤ bits → littleEndian bytes at width < 2 ^ bits
-little-fits bytes small at width bits h = lt-of-lt-of-le (little-small bytes small at width) (pow-mono h)
+  -- and fit a word of as many bits
+  pub little-fits : (at width bits : ℕ) → 8 * width ≤ bits → littleEndian bytes at width < 2 ^ bits
+  little-fits at width bits h = lt-of-lt-of-le (little-small at width) (pow-mono h)

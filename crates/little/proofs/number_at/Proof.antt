@@ -20,7 +20,8 @@ use Rattle.little.proofs.number_at.Tie as tie
 -- a byte that is shifted to its place in a word loses no bit
 shifted : (bytes : List ℕ) (at i : ℕ) → Fits w8 (getD bytes (at + i) 0) → i + 1 ≤ 8
     → littleEndian bytes at i + (getD bytes (at + i) 0 * 2 ^ (8 * i)) % 2 ^ 64 ≡ littleEndian bytes at (i + 1)
-shifted bytes at i byte h = rw (shl-exact {a = getD bytes (at + i) 0} 8 (8 * i) 64 (byte .fits) (omega arith), add-one) (sym (one-more bytes at i))
+shifted bytes at i byte h =
+    rw (shl-exact {a = getD bytes (at + i) 0} 8 (8 * i) 64 (byte .fits) (omega arith), add-one) (sym (one-more bytes at i))
 
 abbrev Inv-loop : tie.InvT-loop
 Inv-loop bytes at width number₀ i₀ number i = (i ≤ width) × (number ≡ littleEndian bytes at i)
