@@ -1,1 +1,2 @@
-pub mod LawsOutput
+pub mod Output
+pub mod CodeOutput

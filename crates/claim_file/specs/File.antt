@@ -1,19 +1,20 @@
 -- What the program writes for an input, R53.
-use Prim.Native.Nat.{ℕ}
+use Prim.Native.Nat.{ℕ, _*_}
 use mathlib.Core.Bool.{cond}
 use mathlib.Core.List.{List, [], _++_}
 use lib.Dec.{ltb}
 use lib.ListN.{length, drop}
-use Rattle.claims.specs.Record.{twenty, answerAt}
+use Rattle.claims.specs.Form.{twenty}
+use Rattle.claims.specs.Record.{answerAt}
 use Rattle.claims.specs.Batch.{batchRule, upTo}
 
--- R53: the bytes of the longest input that is judged
-abbrev pub most-bytes : ℕ
-most-bytes = 65520
-
--- R53: its claims
+-- R53: the claims of the longest input that is judged
 abbrev pub most-claims : ℕ
 most-claims = 3276
+
+-- R53: its bytes
+abbrev pub most-bytes : ℕ
+most-bytes = most-claims * twenty .width
 
 -- R53: the answer bytes; none for a longer input, and none with code 7, where the batch's count is 0
 unfoldable pub output : List ℕ → List ℕ

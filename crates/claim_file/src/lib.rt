@@ -6,11 +6,13 @@ ghost use Rattle.claim_file.specs.File.{output, outputIn};
 use libc::STDIN_FILENO;
 use libc::STDOUT_FILENO;
 
-// The longest input, in bytes.
-const MOST_BYTES: usize = 65_520;
+// The longest input: its claims and its bytes.
+const MOST_CLAIMS: usize = 3_276;
+
+const MOST_BYTES: usize = MOST_CLAIMS * claims::form::TWENTY.width;
 
 // Puts what is written for an input at the start of `answers`, and returns how many bytes that is.
-pub fn answer_file(input: &[u8], answers: &mut [u8; 3_276]) -> usize
+pub fn answer_file(input: &[u8], answers: &mut [u8; MOST_CLAIMS]) -> usize
     ensures { λ r. ⌜ r ≡ length (output (now (input .entry))) ⌝ }
     ensures { λ r. ⌜ now (answers .exit) ≡ outputIn (now (input .entry)) (now (answers .entry)) ⌝ }
     ensures { λ r. ⌜ Counts r (now (answers .exit)) ⌝ }
@@ -31,8 +33,8 @@ fn ended(fd: i32) -> bool {
 // Judges standard input. One byte more than the longest input is read, so that a longer one is noticed; then no more is
 // waited for. An input that can't be read to its end is not judged.
 pub fn run() {
-    let mut input = [0u8; 65_521];
-    let mut answers = [0u8; 3_276];
+    let mut input = [0u8; MOST_BYTES + 1];
+    let mut answers = [0u8; MOST_CLAIMS];
     let n = io::read_full(STDIN_FILENO, &mut input);
     if n > MOST_BYTES {
         return;

@@ -1,4 +1,5 @@
-pub mod LawsDouble
-pub mod LawsBatch
-pub mod LawsAnswers
-pub mod LawsRecord
+pub mod AnswerBytes
+pub mod BatchCount
+pub mod AnswersBuffer
+pub mod CodeNanPatterns
+pub mod CodeBatch

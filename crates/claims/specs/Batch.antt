@@ -5,7 +5,8 @@ use mathlib.Core.List.{List, [], _∷_, _++_}
 use lib.Dec.{eqb, ltb}
 use lib.ListN.{length, drop}
 use Rattle.grid.specs.Codes.{Check, number, done, answer, bad-length, short-answers}
-use Rattle.claims.specs.Record.{Form, answerAt}
+use Rattle.claims.specs.Record.{answerAt}
+use Rattle.claims.specs.declared.form.Form.{Form}
 use Rattle.claims.specs.declared.Batch.{Batch}
 
 -- R5: code 7, a last record that is cut off

@@ -1,3 +1,4 @@
+pub mod Form
 pub mod Record
-pub mod Answer
+pub mod AnswerByte
 pub mod Batch

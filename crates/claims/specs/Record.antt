@@ -1,5 +1,5 @@
--- A claim's record and its answer byte, R49 and R50.
-use Prim.Native.Nat.{ℕ, _+_, _*_}
+-- A record's claim and its answer byte, R49 and R50.
+use Prim.Native.Nat.{ℕ, _*_}
 use mathlib.Core.Bool.{not, cond}
 use mathlib.Core.List.{List, [], _∷_}
 use lib.Dec.{eqb}
@@ -8,39 +8,8 @@ use Rattle.grid.specs.Codes.{Check, number, done, answer, bad-reserved}
 use Rattle.judge.specs.Judge.{judgeRule}
 use Rattle.judge.specs.declared.Claim.{Claim}
 use Rattle.judge.specs.declared.Judged.{Judged}
-use Rattle.little.specs.LittleEndian.{littleEndian}
-
--- R49: where a field stands in its record, and how many bytes it has
-pub record Field : Type 0 where
-  pub at : ℕ
-  pub bytes : ℕ
-
--- R49: a record's width and its fields
-pub record Form : Type 0 where
-  pub width : ℕ
-  pub m : Field
-  pub a : Field
-  pub estimate : Field
-  pub n : Field
-  pub depth : Field
-  pub reserved : Field
-
--- R49: the record of 20 bytes
-abbrev pub twenty : Form
-twenty =
-    record {
-      width = 20;
-      m = record { at = 0; bytes = 4 };
-      a = record { at = 4; bytes = 4 };
-      estimate = record { at = 8; bytes = 8 };
-      n = record { at = 16; bytes = 2 };
-      depth = record { at = 18; bytes = 1 };
-      reserved = record { at = 19; bytes = 1 };
-    }
-
--- R49: a field of the record that starts at a place
-abbrev pub valueOf : List ℕ → ℕ → Field → ℕ
-valueOf bytes start f = littleEndian bytes (start + f .at) (f .bytes)
+use Rattle.claims.specs.Form.{valueOf}
+use Rattle.claims.specs.declared.form.Form.{Form}
 
 -- R49: the claim of the record that starts at a place; to `ofBits` every NaN pattern is the one NaN
 abbrev pub claimFrom : Form → List ℕ → ℕ → Claim

@@ -1,11 +1,12 @@
 // Claim records and the batch that judges them.
 ghost use mathlib.Core.Path.{_≡_};
 ghost use lib.ListN.{length};
-ghost use Rattle.claims.specs.Record.{twenty};
+ghost use Rattle.claims.specs.Form.{FormIn, twenty};
 ghost use Rattle.claims.specs.Batch.{batchRule, answersAfter};
+use form::Form;
 use grid::codes;
-use record::RECORD_BYTES;
 
+pub mod form;
 mod record;
 
 // What a batch returns: its code, and how many claims were answered.
@@ -16,16 +17,18 @@ pub struct Batch {
 }
 
 // What a batch over so many bytes of claims and so many of answers returns.
-fn batch_of(bytes: usize, room: usize) -> Batch
-    ensures { λ r. ⌜ r ≡ batchRule twenty bytes room ⌝ }
+fn batch_of(form: Form, bytes: usize, room: usize) -> Batch
+    requires { ⌜ FormIn form ⌝ }
+    ensures { λ r. ⌜ r ≡ batchRule form bytes room ⌝ }
 {
-    if bytes % RECORD_BYTES != 0 {
+    let width = form.width;
+    if bytes % width != 0 {
         return Batch {
             code: codes::BAD_LENGTH,
             count: 0,
         };
     }
-    let count = bytes / RECORD_BYTES;
+    let count = bytes / width;
     if room < count {
         return Batch {
             code: codes::SHORT_ANSWERS,
@@ -38,19 +41,28 @@ fn batch_of(bytes: usize, room: usize) -> Batch
     }
 }
 
-// Judges the records of `claims` and writes one byte for each to the start of `answers`: none where the batch is refused,
-// since its count is 0 then.
-pub fn judge_claims(claims: &[u8], answers: &mut [u8]) -> Batch
-    ensures { λ r. ⌜ r ≡ batchRule twenty (length (now (claims .entry))) (length (now (answers .entry))) ⌝ }
-    ensures { λ r. ⌜ now (answers .exit) ≡ answersAfter twenty (now (claims .entry)) (now (answers .entry)) ⌝ }
+// Judges the records of `claims`, all of one form, and writes one byte for each to the start of `answers`: none where the
+// batch is refused, since its count is 0 then.
+fn judge_records(form: Form, claims: &[u8], answers: &mut [u8]) -> Batch
+    requires { ⌜ FormIn form ⌝ }
+    ensures { λ r. ⌜ r ≡ batchRule form (length (now (claims .entry))) (length (now (answers .entry))) ⌝ }
+    ensures { λ r. ⌜ now (answers .exit) ≡ answersAfter form (now (claims .entry)) (now (answers .entry)) ⌝ }
 {
-    let batch = batch_of(claims.len(), answers.len());
+    let batch = batch_of(form, claims.len(), answers.len());
     let count = batch.count as usize;
     let mut i = 0;
     while i < count {
-        let byte = record::answer(claims, i);
+        let byte = record::answer_byte(form, claims, i);
         answers[i] = byte;
         i += 1;
     }
     batch
+}
+
+// R51: the batch over records of 20 bytes.
+pub fn judge_claims(claims: &[u8], answers: &mut [u8]) -> Batch
+    ensures { λ r. ⌜ r ≡ batchRule twenty (length (now (claims .entry))) (length (now (answers .entry))) ⌝ }
+    ensures { λ r. ⌜ now (answers .exit) ≡ answersAfter twenty (now (claims .entry)) (now (answers .entry)) ⌝ }
+{
+    judge_records(form::TWENTY, claims, answers)
 }

@@ -1,25 +1,14 @@
-// R49: one claim record and where its fields stand; R50: its answer byte.
+// R49: one claim record; R50: its answer byte.
 ghost use mathlib.Core.Path.{_≡_};
 ghost use Prim.Native.Nat.{_+_, _*_, _≤_};
 ghost use lib.ListN.{length};
 ghost use lib.Ieee.{binary64, ofBits};
-ghost use Rattle.claims.specs.Record.{twenty, claimFrom, answerAt};
+ghost use Rattle.claims.specs.Form.{FormIn, valueOf};
+ghost use Rattle.claims.specs.Record.{claimFrom, answerAt};
+use crate::form::Field;
+use crate::form::Form;
 use grid::codes;
 use judge::Claim;
-
-pub const RECORD_BYTES: usize = 20;
-
-const M_AT: usize = 0;
-
-const A_AT: usize = 4;
-
-const ESTIMATE_AT: usize = 8;
-
-const N_AT: usize = 16;
-
-const DEPTH_AT: usize = 18;
-
-const RESERVED_AT: usize = 19;
 
 // The bits of a double: the weight of its sign, and positive infinity.
 const SIGN: u64 = 0x8000_0000_0000_0000;
@@ -38,16 +27,36 @@ fn double(bits: u64) -> f64
     }
 }
 
-// The claim of the record that starts at `at`.
-fn read_claim(claims: &[u8], at: usize) -> Claim
-    requires { ⌜ at + twenty .width ≤ length (now claims) ⌝ }
-    ensures { λ r. ⌜ r ≡ claimFrom twenty (now (claims .entry)) at ⌝ }
+// A field of the record that starts at `start`.
+fn value_of(claims: &[u8], start: usize, field: Field) -> u64
+    requires { ⌜ start + field .at + field .bytes ≤ length (now claims) ⌝ }
+    requires { ⌜ field .bytes ≤ 8 ⌝ }
+    ensures { λ r. ⌜ r ≡ valueOf (now (claims .entry)) start field ⌝ }
 {
-    let m = little::u32_at(claims, at + M_AT);
-    let a = little::u32_at(claims, at + A_AT);
-    let estimate = double(little::u64_at(claims, at + ESTIMATE_AT));
-    let n = little::u16_at(claims, at + N_AT) as u32;
-    let depth = little::u8_at(claims, at + DEPTH_AT) as u32;
+    let at = start + field.at;
+    little::number_at(claims, at, field.bytes)
+}
+
+// One of at most four bytes.
+fn word_of(claims: &[u8], start: usize, field: Field) -> u32
+    requires { ⌜ start + field .at + field .bytes ≤ length (now claims) ⌝ }
+    requires { ⌜ field .bytes ≤ 4 ⌝ }
+    ensures { λ r. ⌜ r ≡ valueOf (now (claims .entry)) start field ⌝ }
+{
+    value_of(claims, start, field) as u32
+}
+
+// The claim of the record that starts at `start`.
+fn read_claim(form: Form, claims: &[u8], start: usize) -> Claim
+    requires { ⌜ FormIn form ⌝ }
+    requires { ⌜ start + form .width ≤ length (now claims) ⌝ }
+    ensures { λ r. ⌜ r ≡ claimFrom form (now (claims .entry)) start ⌝ }
+{
+    let m = word_of(claims, start, form.m);
+    let a = word_of(claims, start, form.a);
+    let estimate = double(value_of(claims, start, form.estimate));
+    let n = word_of(claims, start, form.n);
+    let depth = word_of(claims, start, form.depth);
     Claim {
         m,
         a,
@@ -58,16 +67,16 @@ fn read_claim(claims: &[u8], at: usize) -> Claim
 }
 
 // R50: the answer byte of record i.
-pub fn answer(claims: &[u8], i: usize) -> u8
-    requires { ⌜ i * twenty .width + twenty .width ≤ length (now claims) ⌝ }
-    ensures { λ r. ⌜ r ≡ answerAt twenty (now (claims .entry)) i ⌝ }
+pub fn answer_byte(form: Form, claims: &[u8], i: usize) -> u8
+    requires { ⌜ FormIn form ⌝ }
+    requires { ⌜ i * form .width + form .width ≤ length (now claims) ⌝ }
+    ensures { λ r. ⌜ r ≡ answerAt form (now (claims .entry)) i ⌝ }
 {
-    let at = i * RECORD_BYTES;
-    let reserved = little::u8_at(claims, at + RESERVED_AT);
-    if reserved != 0 {
+    let start = i * form.width;
+    if value_of(claims, start, form.reserved) != 0 {
         return codes::BAD_RESERVED as u8;
     }
-    let judged = judge::judge(read_claim(claims, at));
+    let judged = judge::judge(read_claim(form, claims, start));
     if judged.code == 0 {
         judged.verdict as u8
     } else {

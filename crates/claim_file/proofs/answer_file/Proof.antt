@@ -7,11 +7,12 @@ use native.Mathlib.Omega.{arith}
 use lib.ListN.{length}
 use lib.Seq.{length-take-le}
 use denote.Ref.{now}
-use Rattle.claims.specs.Record.{twenty}
-use Rattle.claims.proofs.LawsBatch.{count-fits}
-use Rattle.claims.proofs.LawsAnswers.{length-kept}
+use Rattle.claims.specs.Form.{twenty}
+use Rattle.claims.proofs.BatchCount.{count-fits}
+use Rattle.claims.proofs.AnswersBuffer.{length-kept}
 use Rattle.claim_file.specs.File.{most-claims}
-use Rattle.claim_file.proofs.LawsOutput.{longer, counted, left}
+use Rattle.claim_file.proofs.Output.{longer}
+use Rattle.claim_file.proofs.CodeOutput.{counted, left}
 use Rattle.claim_file.proofs.answer_file.Statement.{statement}
 use Rattle.claim_file.proofs.answer_file.Tie as tie
 

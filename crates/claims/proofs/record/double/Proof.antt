@@ -2,7 +2,7 @@
 -- Assumes nothing.
 use borrow.Author.Needs.{needs}
 use mathlib.Core.Path.{sym, _∙_}
-use Rattle.claims.proofs.LawsDouble.{nan-pattern, no-nan-pattern, zero-by-zero}
+use Rattle.claims.proofs.CodeNanPatterns.{nan-pattern, no-nan-pattern, zero-by-zero}
 use Rattle.claims.proofs.record.double.Statement.{statement}
 use Rattle.claims.proofs.record.double.Tie as tie
 

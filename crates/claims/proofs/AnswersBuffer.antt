@@ -1,22 +1,27 @@
--- What a batch's contract says byte by byte: below the count the record's answer byte, from the count on what was there.
+-- R52: the answers buffer byte by byte: below the count the record's answer byte, from the count on what was there.
 -- Assumes nothing.
 use mathlib.Core.Path.{_≡_, refl, sym, ap, _∙_}
 use mathlib.Core.Bool.{Bool, true, false}
 use mathlib.Core.Logic.{⊎-elim}
 use mathlib.Core.List.{List, [], _∷_, _++_}
-use Prim.Native.Nat.{ℕ, zero, suc, _+_, _-_, _*_, _≤_, _<_}
-use native.Mathlib.Nat.{eq-or-lt-of-le, le-of-suc-le-suc, div-add-mod'}
+use Prim.Native.Nat.{ℕ, zero, suc, _+_, _-_, _≤_, _<_}
+use native.Mathlib.Nat.{eq-or-lt-of-le, le-of-suc-le-suc}
 use native.Mathlib.Omega.{arith}
 use borrow.Author.Tests.{ltb-true, ltb-false}
 use lib.Dec.{ltb}
-use lib.ListN.{length, drop, getD, List·getD-append}
+use lib.ListN.{length, drop, getD, length-append, length-drop, List·getD-append}
 use lib.Seq.{getD-at, getD-append-add, getD-drop, ext-getD}
-use Rattle.claims.specs.Record.{Form, answerAt}
+use Rattle.claims.specs.Record.{answerAt}
 use Rattle.claims.specs.Batch.{batchRule, upTo, written, answersAfter}
-use Rattle.claims.specs.declared.Batch.{Batch}
-use Rattle.claims.proofs.LawsBatch.{length-upTo, length-written, written-none, count-fits, of-batch}
+use Rattle.claims.specs.declared.form.Form.{Form}
+use Rattle.claims.proofs.BatchCount.{count-fits, refused-count}
 
-pub upTo-at : (f : ℕ → ℕ) (n i : ℕ) → i < n → getD (upTo f n) i 0 ≡ f i
+pub length-upTo : (f : ℕ → ℕ) (n : ℕ) → length (upTo f n) ≡ n
+unfolding upTo
+length-upTo f zero = refl
+length-upTo f (suc n) = simp length-append (let h = length-upTo f n in omega arith)
+
+upTo-at : (f : ℕ → ℕ) (n i : ℕ) → i < n → getD (upTo f n) i 0 ≡ f i
 unfolding upTo
 upTo-at f zero i h = absurd (let k : ⊥ = omega arith in k)
 upTo-at f (suc n) i h =
@@ -43,27 +48,21 @@ module _ (form : Form) (claims before : List ℕ) (n : ℕ) where
       ∙ getD-drop n before (i - n) 0
       ∙ ap (λ (j : ℕ). getD before j 0) back
 
-module _ (form : Form) (bytes room : ℕ) where
-  -- R51: with code 0 every claim is counted, and no byte of the claims is left over
-  pub done-count : batchRule form bytes room .code ≡ 0 → batchRule form bytes room .count * form .width ≡ bytes
-  done-count =
-      of-batch form bytes room (λ (r : Batch). r .code ≡ 0 → r .count * form .width ≡ bytes)
-      (λ z. absurd (let k : ⊥ = omega arith in k)) (λ z. absurd (let k : ⊥ = omega arith in k))
-      (λ e h z. omega (arith, div-add-mod' bytes (form .width)))
-
-  -- R7: beside a code the count is 0
-  pub refused-count : (batchRule form bytes room .code ≡ 0 → ⊥) → batchRule form bytes room .count ≡ 0
-  refused-count =
-      of-batch form bytes room (λ (r : Batch). (r .code ≡ 0 → ⊥) → r .count ≡ 0) (λ z. refl) (λ z. refl)
-      (λ e h z. absurd (z refl))
-
 module _ (form : Form) (claims before : List ℕ) where
+  pub written-none : before ≡ written form claims 0 before
+  unfolding upTo
+  written-none = refl
+
+  pub length-written : (n : ℕ) → n ≤ length before → length (written form claims n before) ≡ length before
+  length-written n h =
+      simp (length-append, length-drop) (let k = length-upTo (answerAt form claims) n in omega arith)
+
   abbrev counted : ℕ
   counted = batchRule form (length claims) (length before) .count
 
   pub length-kept : length (answersAfter form claims before) ≡ length before
   unfolding answersAfter
-  length-kept = length-written form claims before counted (count-fits form (length claims) (length before))
+  length-kept = length-written counted (count-fits form (length claims) (length before))
 
   -- R52: byte i, below the count, is the answer byte of record i
   pub byte-answered : (i : ℕ) → i < batchRule form (length claims) (length before) .count
@@ -94,4 +93,4 @@ module _ (form : Form) (claims before : List ℕ) where
   unfolding answersAfter
   refused-kept h =
       ap (λ (n : ℕ). written form claims n before) (refused-count form (length claims) (length before) h)
-      ∙ sym (written-none form claims before)
+      ∙ sym written-none

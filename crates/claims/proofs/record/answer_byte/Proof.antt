@@ -1,28 +1,25 @@
--- `claims::record::answer` meets its contract: the tests that led to each return choose the byte, and each byte is small.
+-- `claims::record::answer_byte` meets its contract: the tests that led to each return choose the byte, and each byte is small.
 -- Assumes nothing.
 use borrow.Author.Needs.{needs}
 use borrow.Author.Tests.{eq-eqb, ne-eqb}
 use native.Mathlib.Omega.{arith}
 use Rattle.judge.proofs.Small.{judged-small}
 use Rattle.claims.specs.Record.{answerAt}
-use Rattle.claims.proofs.record.answer.Statement.{statement}
-use Rattle.claims.proofs.record.answer.Tie as tie
+use Rattle.claims.proofs.record.answer_byte.Statement.{statement}
+use Rattle.claims.proofs.record.answer_byte.Tie as tie
 
-mul-at : tie.Need-mul-at
-mul-at c = search needs
+mul-start : tie.Need-mul-start
+mul-start c = search needs
 
-add-u8-at : tie.Need-add-u8-at
-add-u8-at c = search needs
-
-u8-at-requires : tie.Need-u8-at-requires
-u8-at-requires c κs = search needs
+value-of-requires : tie.Need-value-of-requires
+value-of-requires c κs = search needs
 
 cast-result : tie.Need-cast-result
 cast-result c = search needs
 
 returns : tie.Need-returns
 unfolding answerAt
-returns c = rw (← c .before .u8-at .ensures, ne-eqb _ _ (c .if1 .taken))
+returns c = rw (← c .before .value-of .ensures, ne-eqb _ _ (c .if1 .taken))
 
 read-claim-requires : tie.Need-read-claim-requires
 read-claim-requires c κs = search needs
@@ -48,7 +45,7 @@ returns-2 c =
     let judged = c .before .before .before in
     let read = judged .before in
     let test = read .before in
-    rw (← test .before .u8-at .ensures, eq-eqb _ _ (test .if1 .left), ← read .read-claim .ensures, ← judged .judge .ensures, eq-eqb _ _ (c .before .if2 .taken))
+    rw (← test .before .value-of .ensures, eq-eqb _ _ (test .if1 .left), ← read .read-claim .ensures, ← judged .judge .ensures, eq-eqb _ _ (c .before .if2 .taken))
 
 returns-3 : tie.Need-returns-3
 unfolding answerAt
@@ -56,15 +53,14 @@ returns-3 c =
     let judged = c .before .before .before in
     let read = judged .before in
     let test = read .before in
-    rw (← test .before .u8-at .ensures, eq-eqb _ _ (test .if1 .left), ← read .read-claim .ensures, ← judged .judge .ensures, ne-eqb _ _ (c .before .if2 .left))
+    rw (← test .before .value-of .ensures, eq-eqb _ _ (test .if1 .left), ← read .read-claim .ensures, ← judged .judge .ensures, ne-eqb _ _ (c .before .if2 .left))
 
-pub answer-spec : {M : Type 1} → statement M
-answer-spec =
+pub answer-byte-spec : {M : Type 1} → statement M
+answer-byte-spec =
     tie.close
     (tie.spec
-    mul-at
-    add-u8-at
-    u8-at-requires
+    mul-start
+    value-of-requires
     cast-result
     returns
     read-claim-requires
