@@ -6,7 +6,7 @@ use Rattle.judge.specs.declared.Verdict.{Verdict}
 
 -- R50: a verdict's number, or a record's code; never 5, as two bytes hold no greater N than the limit
 pub data AnswerByte : ℕ → Type 0 where
-  verdict : (v : Verdict) → AnswerByte (verdictNumber v)
+  of-verdict : (v : Verdict) → AnswerByte (verdictNumber v)
   of-reserved : AnswerByte (number bad-reserved)
   of-m : AnswerByte (number bad-m)
   of-a : AnswerByte (number bad-a)

@@ -4,7 +4,7 @@ use mathlib.Core.Bool.{not}
 use mathlib.Core.List.{List, [], _∷_, _++_}
 use lib.Dec.{eqb, ltb}
 use lib.ListN.{length, drop}
-use Rattle.grid.specs.Codes.{Check, number, done, answer, bad-length, short-answers}
+use Rattle.grid.specs.Codes.{Check, number, done, checked, bad-length, short-answers}
 use Rattle.claims.specs.Record.{answerAt}
 use Rattle.claims.specs.declared.form.Form.{Form}
 use Rattle.claims.specs.declared.Batch.{Batch}
@@ -17,12 +17,17 @@ length-check form bytes = record { fails = not (eqb (bytes % form .width) 0); co
 abbrev pub answers-check : Form → ℕ → ℕ → Check
 answers-check form bytes room = record { fails = ltb room (bytes / form .width); code = short-answers }
 
--- R51: what the batch returns for claims of so many bytes and an answers buffer of so many: codes 7 and 8 in that order, by
--- the lengths alone (R6), else the count; R7: a zero beside a code
+-- R51: codes 7 and 8 in that order, by the lengths alone (R6)
+abbrev pub batchChecks : Form → ℕ → ℕ → List Check
+batchChecks form bytes room = length-check form bytes ∷ answers-check form bytes room ∷ []
+
+-- R51: a code and a count
+abbrev pub batchWith : ℕ → ℕ → Batch
+batchWith code count = record { code = code; count = count }
+
+-- R51: what the batch returns for claims of so many bytes and an answers buffer of so many; R7: a zero beside a code
 unfoldable pub batchRule : Form → ℕ → ℕ → Batch
-batchRule form bytes room =
-    answer (length-check form bytes ∷ answers-check form bytes room ∷ [])
-    (λ (code : ℕ). record { code = code; count = 0 }) (record { code = number done; count = bytes / form .width })
+batchRule form bytes room = checked (batchChecks form bytes room) (λ k. batchWith k 0) (batchWith (number done) (bytes / form .width))
 
 -- R52: f 0, f 1, .., n of them
 unfoldable pub upTo : (ℕ → ℕ) → ℕ → List ℕ

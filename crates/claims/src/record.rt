@@ -3,12 +3,13 @@ ghost use mathlib.Core.Path.{_≡_};
 ghost use Prim.Native.Nat.{_+_, _*_, _≤_};
 ghost use lib.ListN.{length};
 ghost use lib.Ieee.{binary64, ofBits};
+ghost use Rattle.judge.specs.Judge.{judgeRule};
 ghost use Rattle.claims.specs.Form.{FormIn, valueOf};
 ghost use Rattle.claims.specs.Record.{claimFrom, answerAt};
 use crate::form::Field;
 use crate::form::Form;
 use grid::codes;
-use judge::Claim;
+use judge::Judged;
 
 // The bits of a double: the weight of its sign, and positive infinity.
 const SIGN: u64 = 0x8000_0000_0000_0000;
@@ -46,24 +47,18 @@ fn word_of(claims: &[u8], start: usize, field: Field) -> u32
     value_of(claims, start, field) as u32
 }
 
-// The claim of the record that starts at `start`.
-fn read_claim(form: Form, claims: &[u8], start: usize) -> Claim
+// The judge's answer to the claim of the record that starts at `start`.
+fn judge_at(form: Form, claims: &[u8], start: usize) -> Judged
     requires { ⌜ FormIn form ⌝ }
     requires { ⌜ start + form .width ≤ length (now claims) ⌝ }
-    ensures { λ r. ⌜ r ≡ claimFrom form (now (claims .entry)) start ⌝ }
+    ensures { λ r. ⌜ r ≡ judgeRule (claimFrom form (now (claims .entry)) start) ⌝ }
 {
     let m = word_of(claims, start, form.m);
     let a = word_of(claims, start, form.a);
     let estimate = double(value_of(claims, start, form.estimate));
     let n = word_of(claims, start, form.n);
     let depth = word_of(claims, start, form.depth);
-    Claim {
-        m,
-        a,
-        estimate,
-        n,
-        depth,
-    }
+    judge::judge(m, a, estimate, n, depth)
 }
 
 // R50: the answer byte of record i.
@@ -76,8 +71,8 @@ pub fn answer_byte(form: Form, claims: &[u8], i: usize) -> u8
     if value_of(claims, start, form.reserved) != 0 {
         return codes::BAD_RESERVED as u8;
     }
-    let judged = judge::judge(read_claim(form, claims, start));
-    if judged.code == 0 {
+    let judged = judge_at(form, claims, start);
+    if judged.code == codes::DONE {
         judged.verdict as u8
     } else {
         judged.code as u8

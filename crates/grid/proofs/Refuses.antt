@@ -1,5 +1,5 @@
 -- An answer that begins with checks refuses as the first demand asks, whatever the entry. Assumes nothing.
-use mathlib.Core.Path.{_≡_, refl, sym, ap, _∙_}
+use mathlib.Core.Path.{_≡_, refl, sym, ap, ap₂, _∙_}
 use mathlib.Core.Bool.{Bool, true, false, cond, true≢false}
 use mathlib.Core.List.{List, [], _∷_}
 use mathlib.Core.Logic.{_⊎_, inl, inr, _↔_}
@@ -112,3 +112,9 @@ through {A} {B} f zeros given (c ∷ cs) =
     either : (t : Bool) (x y : A) → f (cond t x y) ≡ cond t (f x) (f y)
     either true x y = refl
     either false x y = refl
+
+-- answers whose refusals are alike
+pub alike-refused : {A : Type 0} (f g : ℕ → A) → ((k : ℕ) → f k ≡ g k) → (given : A) (cs : List Check) → checked cs f given ≡ checked cs g given
+alike-refused f g h given [] = refl
+alike-refused {A} f g h given (c ∷ cs) =
+    ap₂ (λ (x y : A). cond (c .fails) x y) (h (number (c .code))) (alike-refused f g h given cs)

@@ -3,8 +3,12 @@
 use borrow.Author.Needs.{needs}
 use borrow.Author.Tests.{eq-eqb, ne-eqb}
 use native.Mathlib.Omega.{arith}
-use Rattle.judge.proofs.Small.{judged-small}
+use mathlib.Core.Path.{_≡_, sym, ap, _∙_}
+use Prim.Native.Nat.{_≤_}
+use denote.Ref.{now}
+use Rattle.judge.proofs.CodeAnswers.{judged-small}
 use Rattle.claims.specs.Record.{answerAt}
+use Rattle.claims.proofs.AnswerBytes.{byteOf, byte-is}
 use Rattle.claims.proofs.record.answer_byte.Statement.{statement}
 use Rattle.claims.proofs.record.answer_byte.Tie as tie
 
@@ -21,39 +25,31 @@ returns : tie.Need-returns
 unfolding answerAt
 returns c = rw (← c .before .value-of .ensures, ne-eqb _ _ (c .if1 .taken))
 
-read-claim-requires : tie.Need-read-claim-requires
-read-claim-requires c κs = search needs
+judge-at-requires : tie.Need-judge-at-requires
+judge-at-requires c κs = search needs
 
-judge-requires : tie.Need-judge-requires
-judge-requires c κs = search needs
+small : (c : tie.After-judge-at) → (c .judge-at .result .code ≤ 10) × (c .judge-at .result .verdict ≤ 18)
+small c = rw (c .judge-at .ensures) (judged-small _)
 
 cast-result-2 : tie.Need-cast-result-2
-cast-result-2 c =
-    let judged = c .before .before .before in
-    let small = judged-small (judged .before .read-claim .result) in
-    rw (judged .judge .ensures) (record { fits = omega arith })
+cast-result-2 c = record { fits = omega (arith, small (c .before .before .before) .1) }
 
 cast-result-3 : tie.Need-cast-result-3
-cast-result-3 c =
-    let judged = c .before .before .before in
-    let small = judged-small (judged .before .read-claim .result) in
-    rw (judged .judge .ensures) (record { fits = omega arith })
+cast-result-3 c = record { fits = omega (arith, small (c .before .before .before) .0) }
+
+-- the reserved byte is 0, and the judge has answered
+judged : (c : tie.After-judge-at)
+    → let a = c .before .before .before .before .before .args in byteOf (c .judge-at .result) ≡ answerAt (a .form) (now (a .claims)) (a .i)
+judged c =
+    let t = c .before in
+    let a = t .before .before .before .before .args in
+    rw (byte-is (a .form) (now (a .claims)) (a .i), ← t .before .value-of .ensures, eq-eqb _ _ (t .if1 .left), ← c .judge-at .ensures)
 
 returns-2 : tie.Need-returns-2
-unfolding answerAt
-returns-2 c =
-    let judged = c .before .before .before in
-    let read = judged .before in
-    let test = read .before in
-    rw (← test .before .value-of .ensures, eq-eqb _ _ (test .if1 .left), ← read .read-claim .ensures, ← judged .judge .ensures, eq-eqb _ _ (c .before .if2 .taken))
+returns-2 c = let j = c .before .before .before in rw (eq-eqb _ _ (c .before .if2 .taken)) at (judged j)
 
 returns-3 : tie.Need-returns-3
-unfolding answerAt
-returns-3 c =
-    let judged = c .before .before .before in
-    let read = judged .before in
-    let test = read .before in
-    rw (← test .before .value-of .ensures, eq-eqb _ _ (test .if1 .left), ← read .read-claim .ensures, ← judged .judge .ensures, ne-eqb _ _ (c .before .if2 .left))
+returns-3 c = let j = c .before .before .before in rw (ne-eqb _ _ (c .before .if2 .left)) at (judged j)
 
 pub answer-byte-spec : {M : Type 1} → statement M
 answer-byte-spec =
@@ -63,8 +59,7 @@ answer-byte-spec =
     value-of-requires
     cast-result
     returns
-    read-claim-requires
-    judge-requires
+    judge-at-requires
     cast-result-2
     cast-result-3
     returns-2

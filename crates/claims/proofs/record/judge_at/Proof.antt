@@ -1,7 +1,7 @@
--- `claims::record::read_claim` meets its contract: each field is read where it stands. Assumes nothing.
+-- `claims::record::judge_at` meets its contract: each field is read where it stands, and judged. Assumes nothing.
 use borrow.Author.Needs.{needs}
-use Rattle.claims.proofs.record.read_claim.Statement.{statement}
-use Rattle.claims.proofs.record.read_claim.Tie as tie
+use Rattle.claims.proofs.record.judge_at.Statement.{statement}
+use Rattle.claims.proofs.record.judge_at.Tie as tie
 
 word-of-requires : tie.Need-word-of-requires
 word-of-requires c κs = search needs
@@ -21,11 +21,14 @@ word-of-requires-3 c κs = search needs
 word-of-requires-4 : tie.Need-word-of-requires-4
 word-of-requires-4 c κs = search needs
 
+judge-requires : tie.Need-judge-requires
+judge-requires c κs = search needs
+
 returns : tie.Need-returns
 returns c = cc
 
-pub read-claim-spec : {M : Type 1} → statement M
-read-claim-spec =
+pub judge-at-spec : {M : Type 1} → statement M
+judge-at-spec =
     tie.close
     (tie.spec
     word-of-requires
@@ -34,4 +37,5 @@ read-claim-spec =
     double-requires
     word-of-requires-3
     word-of-requires-4
+    judge-requires
     returns)
