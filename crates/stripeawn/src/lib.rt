@@ -1,17 +1,17 @@
 // The C library: every entry, thin over the crate that has its rule. include/stripeawn.h documents them for C.
 ghost use mathlib.Core.Path.{_≡_};
 ghost use Rattle.series.specs.Entry.{sineRule};
+ghost use Rattle.orbit.specs.Given.{grid};
 ghost use Rattle.ends.specs.Entry.{lowerRule, upperRule};
 ghost use Rattle.enclosure.specs.Enclosure.{enclosureRule};
 ghost use lib.ListN.{length};
 ghost use Rattle.proposal.specs.Propose.{proposalRule};
 ghost use Rattle.judge.specs.Judge.{judgeRule};
-ghost use Rattle.claims.specs.Record.{twenty};
+ghost use Rattle.claims.specs.Form.{twenty};
 ghost use Rattle.claims.specs.Batch.{batchRule, answersAfter};
 use claims::Batch;
 use enclosure::Enclosure;
 use ends::End;
-use judge::Claim;
 use judge::Judged;
 use proposal::Proposal;
 use series::SineBounds;
@@ -25,43 +25,37 @@ pub extern "C" fn stripeawn_sine(x: u32, depth: u32) -> SineBounds
 
 #[no_mangle]
 pub extern "C" fn stripeawn_lower_end(x: u32, m: u32, a: u32, depth: u32) -> End
-    ensures { λ r. ⌜ r ≡ lowerRule x m a depth ⌝ }
+    ensures { λ r. ⌜ r ≡ lowerRule x (grid m a) depth ⌝ }
 {
     ends::lower_end(x, m, a, depth)
 }
 
 #[no_mangle]
 pub extern "C" fn stripeawn_upper_end(x: u32, m: u32, a: u32, depth: u32) -> End
-    ensures { λ r. ⌜ r ≡ upperRule x m a depth ⌝ }
+    ensures { λ r. ⌜ r ≡ upperRule x (grid m a) depth ⌝ }
 {
     ends::upper_end(x, m, a, depth)
 }
 
 #[no_mangle]
 pub extern "C" fn stripeawn_enclose(m: u32, a: u32, depth: u32) -> Enclosure
-    ensures { λ r. ⌜ r ≡ enclosureRule m a depth ⌝ }
+    ensures { λ r. ⌜ r ≡ enclosureRule (grid m a) depth ⌝ }
 {
     enclosure::enclose(m, a, depth)
 }
 
 #[no_mangle]
 pub extern "C" fn stripeawn_propose(m: u32, a: u32) -> Proposal
-    ensures { λ r. ⌜ r ≡ proposalRule m a ⌝ }
+    ensures { λ r. ⌜ r ≡ proposalRule (grid m a) ⌝ }
 {
     proposal::propose(m, a)
 }
 
 #[no_mangle]
 pub extern "C" fn stripeawn_judge(m: u32, a: u32, estimate: f64, n: u32, depth: u32) -> Judged
-    ensures { λ r. ⌜ r ≡ judgeRule (record { m = m; a = a; estimate = estimate; n = n; depth = depth }) ⌝ }
+    ensures { λ r. ⌜ r ≡ judgeRule (record { given = grid m a; estimate = estimate; n = n; depth = depth }) ⌝ }
 {
-    judge::judge(Claim {
-        m,
-        a,
-        estimate,
-        n,
-        depth,
-    })
+    judge::judge(m, a, estimate, n, depth)
 }
 
 #[no_mangle]
