@@ -27,7 +27,7 @@ module _ (input : List ℕ) where
   cut h e = rw (le-ltb _ _ h) (ap answers (sym (rule-length twenty (length input) most-claims e)))
 
   -- R53: else the answer bytes and no more: one for each claim, since there is room for all
-  pub whole : length input ≤ most-bytes → length input % twenty .width ≡ 0
+  pub complete : length input ≤ most-bytes → length input % twenty .width ≡ 0
       → output input ≡ upTo (answerAt twenty input) (length input / twenty .width)
   unfolding output
-  whole h e = rw (le-ltb _ _ h) (ap answers (sym (rule-done twenty (length input) most-claims e (omega arith))))
+  complete h e = rw (le-ltb _ _ h) (ap answers (sym (rule-done twenty (length input) most-claims e (omega arith))))

@@ -10,7 +10,7 @@ use Rattle.ends.specs.Ends.{endAt}
 use Rattle.ends.specs.Entry.{endChecks, endRefused, flagged}
 use Rattle.ends.specs.declared.End.{End}
 
-flag-done : (t : Bool) → flagged t .code ≡ 0
+pub flag-done : (t : Bool) → flagged t .code ≡ 0
 flag-done true = refl
 flag-done false = refl
 

@@ -2,17 +2,18 @@
 use mathlib.Core.Path.{_≡_, sym, ap, _∙_}
 use mathlib.Core.List.{List}
 use Prim.Native.Nat.{ℕ, _<_}
-use Rattle.grid.proofs.Made.{passes}
 use Rattle.judge.specs.Verdict.{verdictNumber}
-use Rattle.judge.specs.Judge.{claimChecks, caseAt, caseVerdict, verdict, judgeRule}
+use Rattle.judge.specs.Judge.{verdict, judgeRule}
 use Rattle.judge.specs.declared.Judged.{Judged}
 use Rattle.judge.specs.declared.Verdict.{Verdict}
-use Rattle.judge.proofs.Entry.{answered}
-use Rattle.claims.specs.Record.{twenty, claimAt, answerAt}
-use Rattle.claims.proofs.LawsAnswers.{byte-answered}
-use Rattle.promises.specs.Demand1.{recordChecks, codeOfByte, batchOf}
+use Rattle.judge.proofs.Answered.{answered}
+use Rattle.claims.specs.Form.{twenty}
+use Rattle.claims.specs.Record.{claimAt, answerAt}
+use Rattle.claims.proofs.AnswersBuffer.{byte-answered}
+use Rattle.promises.specs.Demand1.{codeOfByte, batchOf}
 use Rattle.promises.specs.Rules.{byteAfter}
-use Rattle.promises.proofs.Demand1.{verdict-code, byte-is, demand-1}
+use Rattle.promises.proofs.Demand1.{verdict-code, demand-1}
+use Rattle.promises.proofs.Rules.{rules}
 
 -- the answer with a verdict's number
 abbrev numbered : ℕ → Judged
@@ -22,10 +23,9 @@ numbered n = record { code = 0; verdict = n }
 pub byte-judged : (claims : List ℕ) (i : ℕ) (v : Verdict) → answerAt twenty claims i ≡ verdictNumber v
     → judgeRule (claimAt twenty claims i) ≡ verdict v
 byte-judged claims i v e =
-    let c = claimAt twenty claims i in
-    let p = demand-1 .byte claims i .passed .0 (ap codeOfByte e ∙ verdict-code v) in
-    let given = sym (byte-is claims i ∙ passes (recordChecks claims i) p .on (λ (k : ℕ). k) (verdictNumber (caseVerdict (caseAt c)))) ∙ e in
-    answered c (passes (claimChecks c) (p .1)) ∙ ap numbered given
+    let z = ap codeOfByte e ∙ verdict-code v in
+    answered (claimAt twenty claims i) (demand-1 .byte claims i .passed .0 z .1)
+    ∙ ap numbered (sym (rules .byte claims i z) ∙ e)
 
 -- the same of the buffer
 pub after-judged : (claims answers : List ℕ) (i : ℕ) (v : Verdict) → i < batchOf claims answers .count

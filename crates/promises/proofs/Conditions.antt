@@ -11,7 +11,8 @@ use Rattle.grid.specs.Grid.{T-units}
 use Rattle.grid.specs.Codes.{or}
 use Rattle.ends.specs.Ends.{upperEnd}
 use Rattle.units.specs.Units.{product, offRange, estimate-check}
-use Rattle.little.proofs.LawsLittle.{one-byte}
+use Rattle.little.proofs.Digits.{one-byte}
+use Rattle.claims.specs.Form.{twenty}
 use Rattle.promises.specs.Conditions.{OffRange, Exactly, Conditions}
 
 less : (a b : ℕ) → ltb a b ≡ true ↔ a < b
@@ -49,9 +50,9 @@ conditions =
       depth = λ d. either _ _ (less d 1) (less 5 d);
       estimate = off-range;
       n = λ n. less _ _;
-      top = λ o d. fails (upperEnd o d T-units);
+      top = λ c d. fails (upperEnd c d T-units);
       bad-length = λ bytes. differ _ _;
       short-answers = λ bytes room. less _ _;
-      reserved = λ claims start. rw (one-byte claims (start + 19)) (differ _ _);
+      reserved = λ claims start. rw (one-byte claims (start + twenty .reserved .at)) (differ _ _);
       x = λ x. less _ _;
     }

@@ -1,103 +1,80 @@
 -- The first demand is met. Assumes nothing.
-use mathlib.Core.Path.{_≡_, refl, sym, ap, subst}
-use mathlib.Core.Bool.{Bool, true, false}
+use mathlib.Core.Path.{_≡_, refl}
+use mathlib.Core.Bool.{true, false}
 use mathlib.Core.List.{List, [], _∷_}
-use Prim.Native.Nat.{ℕ, _*_, _/_}
+use Prim.Native.Nat.{ℕ}
+use lib.Dec.{T}
+use lib.Ieee.{Float}
 use lib.ListN.{length}
-use Rattle.grid.specs.Codes.{Code, number, order, answer, done, bad-m, bad-a, bad-depth, bad-estimate, bad-n, no-upper-end, bad-length, short-answers, bad-reserved, bad-x}
-use Rattle.grid.specs.Make.{angleSays, eccentricitySays, depthSays}
-use Rattle.grid.specs.declared.AngleOr.the-variants as angle
-use Rattle.grid.specs.declared.EccentricityOr.the-variants as eccentricity
-use Rattle.grid.specs.declared.DepthOr.the-variants as depth
-use Rattle.series.specs.Sine.{Lo, Hi}
-use Rattle.series.specs.Entry.{sineRule}
-use Rattle.ends.specs.declared.Orbit.{Orbit}
-use Rattle.ends.specs.declared.End.{End}
-use Rattle.ends.specs.Ends.{lowerEnd, upperEnd}
-use Rattle.ends.specs.declared.OrbitOr.the-variants as orbit
-use Rattle.ends.specs.declared.QuestionOr.the-variants as question
-use Rattle.ends.specs.Entry.{orbitAt, orbitSays, questionChecks, questionAt, questionSays, flagged, endRule}
-use Rattle.enclosure.specs.Enclosure.{enclosed}
-use Rattle.rotations.specs.Rotate.{rotated}
-use Rattle.proposal.specs.Propose.{concluded, proposalRule}
-use Rattle.units.specs.Units.{floorAndCeiling, unitsSays}
-use Rattle.units.specs.declared.UnitsOr.the-variants as units
+use Rattle.grid.specs.Codes.{order, a-check, depth-check, x-check}
+use Rattle.grid.specs.Refuses.{Refuses, inOrder, all}
+use Rattle.grid.proofs.Refuses.{refuses}
+use Rattle.grid.proofs.Made.{angles, eccentricities, depths-made}
+use Rattle.series.specs.Entry.{sineChecks, sineRule}
+use Rattle.series.proofs.SineRefuses.{sines}
+use Rattle.units.specs.Units.{estimate-check}
+use Rattle.units.proofs.Made.{estimates}
+use Rattle.orbit.specs.Given.{Given, grid, checksOf, problemChecks}
+use Rattle.orbit.proofs.Posed.{cells, problems}
+use Rattle.ends.proofs.Answered.{ends}
+use Rattle.enclosure.specs.Enclosure.{enclosureChecks}
+use Rattle.ends.specs.Entry.{endChecks}
+use Rattle.enclosure.proofs.Encloses.{enclosures}
+use Rattle.proposal.specs.Propose.{proposalRule}
+use Rattle.proposal.proofs.Proposed.{proposals}
 use Rattle.judge.specs.Verdict.{verdictNumber}
-use Rattle.judge.specs.Judge.{claimChecks, caseAt, caseSays, caseVerdict, verdict, judgeRule}
-use Rattle.judge.specs.declared.CaseOr.the-variants as case
+use Rattle.judge.specs.Judge.{claimChecks, caseAt, caseVerdict, judgeRule}
 use Rattle.judge.specs.declared.Verdict.{Verdict}
 use Rattle.judge.specs.declared.Verdict.the-variants.{Confirmed, Refuted, Undecided}
-use Rattle.claims.specs.Record.{twenty, reserved-check, byteOf, claimAt, answerAt}
-use Rattle.claims.specs.Batch.{batchRule}
-use Rattle.claims.proofs.LawsAnswers.{refused-kept}
-use Rattle.promises.specs.Refuses.{Refuses}
-use Rattle.promises.specs.Demand1.{recordChecks, codeOfByte, Demand1}
+use Rattle.judge.proofs.Answered.{claims}
+use Rattle.claims.specs.Form.{twenty}
+use Rattle.claims.specs.Record.{recordChecks, claimAt, answerAt}
+use Rattle.claims.specs.Batch.{batchChecks, batchRule}
+use Rattle.claims.proofs.BatchCount.{batches}
+use Rattle.claims.proofs.AnswersBuffer.{refused-kept}
+use Rattle.promises.specs.Demand1.{codeOfByte, Demand1}
 use Rattle.promises.proofs.Conditions.{conditions}
-use Rattle.promises.proofs.Refuses.{refuses, through, said}
-
-pub flag-done : (t : Bool) → flagged t .code ≡ 0
-flag-done true = refl
-flag-done false = refl
-
--- either end
-pub ends : (end : Orbit → ℕ → ℕ → Bool) (x m a d : ℕ)
-    → Refuses (questionChecks x m a d) (λ (r : End). r .code) (λ k. record { code = k; accepted = 0 }) (endRule end x m a d)
-ends end x m a d = refuses (λ k. refl) (flagged (end (orbitAt m a) d x)) (flag-done (end (orbitAt m a) d x)) tt
 
 pub verdict-code : (v : Verdict) → codeOfByte (verdictNumber v) ≡ 0
 verdict-code Confirmed = refl
 verdict-code Refuted = refl
 verdict-code Undecided = refl
 
-code-byte : (k : Code) → codeOfByte (number k) ≡ number k
-code-byte done = refl
-code-byte bad-m = refl
-code-byte bad-a = refl
-code-byte bad-depth = refl
-code-byte bad-estimate = refl
-code-byte bad-n = refl
-code-byte no-upper-end = refl
-code-byte bad-length = refl
-code-byte short-answers = refl
-code-byte bad-reserved = refl
-code-byte bad-x = refl
-
--- the byte of a record by all the record's checks
-pub byte-is : (claims : List ℕ) (i : ℕ)
-    → answerAt twenty claims i ≡ answer (recordChecks claims i) (λ (k : ℕ). k) (verdictNumber (caseVerdict (caseAt (claimAt twenty claims i))))
-unfolding answerAt judgeRule
-byte-is claims i =
-    let c = claimAt twenty claims i in
-    ap (λ (b : ℕ). answer (reserved-check twenty claims (i * 20) ∷ []) (λ (k : ℕ). k) b)
-    (through byteOf (λ k. record { code = k; verdict = 0 }) (verdict (caseVerdict (caseAt c))) (claimChecks c))
-
-bytes : (claims : List ℕ) (i : ℕ) → Refuses (recordChecks claims i) codeOfByte (λ k. k) (answerAt twenty claims i)
+bytes : (claims : List ℕ) (i : ℕ) → Refuses (recordChecks twenty claims i) codeOfByte (λ k. k) (answerAt twenty claims i)
+unfolding answerAt
 bytes claims i =
     let v = caseVerdict (caseAt (claimAt twenty claims i)) in
-    subst (Refuses (recordChecks claims i) codeOfByte (λ k. k)) (sym (byte-is claims i))
-    (refuses code-byte (verdictNumber v) (verdict-code v) tt)
+    refuses codeOfByte (λ k. k) (verdictNumber v) (verdict-code v) (recordChecks twenty claims i)
+    (refl, (refl, (refl, (refl, (refl, (refl, tt)))))) tt
+
+in-order : (x a d n i : ℕ) (g : Given) (f : Float) (claims answers : List ℕ)
+    → T (all (inOrder order)
+    (sineChecks x d ∷ endChecks x g d ∷ enclosureChecks g d ∷ checksOf g ∷ problemChecks g d
+    ∷ claimChecks (record { given = g; estimate = f; n = n; depth = d }) ∷ batchChecks twenty (length claims) (length answers)
+    ∷ recordChecks twenty claims i ∷ (x-check x ∷ []) ∷ (a-check a ∷ []) ∷ (depth-check d ∷ []) ∷ (estimate-check f ∷ []) ∷ []))
+unfolding order
+in-order x a d n i (grid m b) f claims answers = tt
 
 pub demand-1 : Demand1
-unfolding sineRule proposalRule concluded judgeRule batchRule order
+unfolding sineRule proposalRule judgeRule batchRule order
 demand-1 =
     record {
-      sine = λ x d. refuses (λ k. refl) (record { code = 0; lo = Lo x d; hi = Hi x d }) refl tt;
-      lower-end = ends lowerEnd;
-      upper-end = ends upperEnd;
-      enclose = λ m a d. refuses (λ k. refl) (enclosed (orbitAt m a) d) refl tt;
-      propose = λ m a. refuses (λ k. refl) (concluded (orbitAt m a) (rotated (orbitAt m a))) refl tt;
-      judge = λ c. refuses (λ k. refl) (verdict (caseVerdict (caseAt c))) refl tt;
-      batch = λ claims answers. refuses (λ k. refl) (record { code = 0; count = length claims / 20 }) refl tt;
+      sine = λ x d. sines x d .demand;
+      lower-end = λ x g d. ends false x g d .demand;
+      upper-end = λ x g d. ends true x g d .demand;
+      enclose = λ g d. enclosures g d .demand;
+      propose = λ g. proposals g .demand;
+      judge = λ c. claims c .demand;
+      batch = λ claims answers. batches twenty (length claims) (length answers) .demand;
       lent = refused-kept twenty;
       byte = bytes;
-      angle = λ x. said angleSays angle.Refused (λ k. refl) (angle.Made (record { units = x })) refl tt;
-      eccentricity = λ a. said eccentricitySays eccentricity.Refused (λ k. refl) (eccentricity.Made (record { units = a })) refl tt;
-      depth = λ d. said depthSays depth.Refused (λ k. refl) (depth.Made (record { pairs = d })) refl tt;
-      orbit = λ m a. said orbitSays orbit.Refused (λ k. refl) (orbit.Made (orbitAt m a)) refl tt;
-      question = λ x m a d. said questionSays question.Refused (λ k. refl) (question.Made (questionAt x m a d)) refl tt;
-      in-units = λ x. said unitsSays units.Refused (λ k. refl) (units.Made (floorAndCeiling x)) refl tt;
-      claim = λ c. said caseSays case.Refused (λ k. refl) (case.Made (caseAt c)) refl tt;
-      in-order = λ x m a d i f c claims answers. tt;
+      angle = λ x. angles x .demand;
+      eccentricity = λ a. eccentricities a .demand;
+      depth = λ d. depths-made d .demand;
+      cell = λ g. cells g .demand;
+      problem = λ g d. problems g d .demand;
+      estimate = λ x. estimates x .demand;
+      in-order = in-order;
       conditions = conditions;
       own = tt;
     }

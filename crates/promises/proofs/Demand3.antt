@@ -1,6 +1,6 @@
 -- The third demand is met. Assumes nothing.
 use mathlib.Core.Path.{_≡_, sym, ap, _∙_}
-use mathlib.Core.Bool.{false}
+use mathlib.Core.Bool.{true, false}
 use mathlib.Core.List.{List, [], _∷_}
 use mathlib.Core.Logic.{inl, inr}
 use Prim.Native.Nat.{ℕ, _*_, _≤_}
@@ -8,22 +8,21 @@ use native.Mathlib.Omega.{arith}
 use native.Mathlib.Nat.{lt-of-not-le}
 use native.Mathlib.Decide.{decLe}
 use Rattle.grid.specs.Grid.{depths}
-use Rattle.grid.proofs.Made.{passes}
-use Rattle.ends.specs.Ends.{lowerEnd, upperEnd}
-use Rattle.ends.specs.Entry.{orbitAt}
+use Rattle.grid.proofs.FirstCode.{goes}
+use Rattle.orbit.specs.Given.{cellOf}
 use Rattle.ends.proofs.Apart.{apart}
-use Rattle.enclosure.proofs.Laws.{deeper-within}
+use Rattle.enclosure.proofs.Encloses.{deeper-within}
 use Rattle.judge.specs.Verdict.{verdictNumber}
-use Rattle.judge.specs.Judge.{verdict, judgeRule}
-use Rattle.judge.specs.declared.Claim.{Claim}
+use Rattle.judge.specs.Judge.{Claim, verdict, judgeRule}
 use Rattle.judge.specs.declared.Judged.{Judged}
 use Rattle.judge.specs.declared.Verdict.{Verdict}
 use Rattle.judge.specs.declared.Verdict.the-variants.{Confirmed, Refuted}
-use Rattle.judge.proofs.Laws as judge
-use Rattle.judge.proofs.Checks.{tested}
+use Rattle.judge.proofs.Kept as judge
 use Rattle.judge.specs.Exact.{atDepth}
-use Rattle.judge.proofs.Entry.{answer-given, confirmed-at, refuted-at}
-use Rattle.claims.specs.Record.{twenty, reserved-check, byteOf, claimAt, answerAt}
+use Rattle.judge.proofs.Answered.{case-in, judged-passed, confirmed-at, refuted-at}
+use Rattle.claims.specs.Form.{twenty}
+use Rattle.claims.specs.Record.{reserved-check, claimAt, answerAt}
+use Rattle.claims.proofs.AnswerBytes.{byteOf, byte-is}
 use Rattle.promises.specs.Demand3.{Settled, Again, Demand3}
 use Rattle.promises.proofs.Bytes.{byte-judged}
 use Rattle.promises.proofs.Ends.{accepted-says}
@@ -33,7 +32,7 @@ two-verdicts r e f = let h = ap (λ (r : Judged). r .verdict) (sym e ∙ f) in o
 
 -- a verdict is given at depths 1 to 5
 few : (c : Claim) (v : Verdict) → judgeRule c ≡ verdict v → c .depth ≤ depths
-few c v e = tested c (answer-given c v e) .few
+few c v e = case-in c (judged-passed c v e) .problem .depth .few
 
 -- the lesser depth's verdict is the greater's too
 never-both : (c : Claim) (d e : ℕ)
@@ -56,11 +55,11 @@ kept c v e s h k j =
     ]
 
 -- a verdict on the claim of a record is its byte, where the reserved byte is 0
-judged-byte : (claims : List ℕ) (i : ℕ) (v : Verdict) → reserved-check twenty claims (i * 20) .fails ≡ false
+judged-byte : (claims : List ℕ) (i : ℕ) (v : Verdict) → reserved-check twenty claims (i * twenty .width) .fails ≡ false
     → judgeRule (claimAt twenty claims i) ≡ verdict v → answerAt twenty claims i ≡ verdictNumber v
-unfolding answerAt
 judged-byte claims i v zero e =
-    passes (reserved-check twenty claims (i * 20) ∷ []) (zero, tt) .on (λ (k : ℕ). k) (byteOf (judgeRule (claimAt twenty claims i)))
+    byte-is twenty claims i
+    ∙ goes (reserved-check twenty claims (i * twenty .width) ∷ []) (zero, tt) (λ (k : ℕ). k) (byteOf (judgeRule (claimAt twenty claims i)))
     ∙ ap byteOf e
 
 byte-kept : (claims others : List ℕ) (i j : ℕ) (v : Verdict) (e : ℕ) → Again claims i others j e → Settled v
@@ -81,13 +80,13 @@ pub demand-3 : Demand3
 demand-3 =
     record {
       kept = kept;
-      tests-never-both = λ o u n d e small top i j. judge.never-both o u n small top d e i j;
+      tests-never-both = λ c u n d e within top i j. judge.never-both c u n within top d e i j;
       never-both = never-both;
       byte-kept = byte-kept;
       bytes-never-both = bytes-never-both;
-      apart = λ x y m a d e s t.
-          let (f, p) = accepted-says lowerEnd x m a d s in
-          let (g, q) = accepted-says upperEnd y m a e t in
-          apart (orbitAt m a) x y d e (f .a) (f .angle) (g .angle) (f .few) (g .few) p q;
-      within = λ m a d e h s t. let w = deeper-within m a d e h s t in record { lower = w .0; upper = w .1 };
+      apart = λ x y g d e s t.
+          let (f, p) = accepted-says false x g d s in
+          let (k, q) = accepted-says true y g e t in
+          apart (cellOf g) x y d e (f .problem .cell) (f .angle) (k .angle) (f .problem .depth .few) (k .problem .depth .few) p q;
+      within = λ g d e h s t. let w = deeper-within g d e h s t in record { lower = w .0; upper = w .1 };
     }

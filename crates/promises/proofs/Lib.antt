@@ -1,4 +1,3 @@
-pub mod Refuses
 pub mod Conditions
 pub mod Demand1
 pub mod Rules
@@ -6,6 +5,6 @@ pub mod Ends
 pub mod Bytes
 pub mod Demand2
 pub mod Demand3
-pub mod Laws
+pub mod Further
 pub mod Starred
 pub mod Unique

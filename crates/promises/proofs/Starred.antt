@@ -6,10 +6,10 @@ use lib.Ieee.{ofBits}
 use Rattle.series.specs.Terms.{l, u}
 use Rattle.series.specs.Bounds.{evens, odds, rawLow, rawHigh, greatestLow, leastHigh}
 use Rattle.series.specs.Entry.{sineRule}
-use Rattle.ends.specs.Ends.{lowerEnd, upperEnd}
+use Rattle.ends.specs.Ends.{belowBy, aboveBy}
 use Rattle.enclosure.specs.Halving.{halve, turns}
-use Rattle.enclosure.specs.Enclosure.{lowerAnswer, upperAnswer}
-use Rattle.enclosure.proofs.Laws.{circle}
+use Rattle.enclosure.specs.Enclosure.{foundLower, foundUpper}
+use Rattle.enclosure.proofs.Encloses.{circle}
 use Rattle.units.specs.Units.{offRange}
 use Rattle.judge.specs.Verdict.{confirmed, refuted, verdictOf}
 use Rattle.judge.specs.Judge.{judgeRule}
@@ -30,13 +30,13 @@ unfolding sineRule
 at-0 d some few = simp (le-ltb d 1 some, le-ltb depths d few, Lo-zero d, Hi-zero d)
 
 list : AllHold starred
-unfolding starred sineRule l u evens odds rawLow rawHigh greatestLow leastHigh lowerEnd upperEnd halve turns lowerAnswer upperAnswer offRange ofBits
+unfolding starred sineRule l u evens odds rawLow rawHigh greatestLow leastHigh belowBy aboveBy halve turns foundLower foundUpper offRange ofBits
 list =
     at-0 and refl and refl and refl and (refl, refl) and refl and refl and refl and refl
     and refl and refl and refl and refl and refl and refl and refl and refl and refl and refl and refl and tt
 
 beside : AllHold others
-unfolding others l u evens odds rawLow rawHigh greatestLow leastHigh lowerEnd upperEnd offRange ofBits verdictOf confirmed refuted judgeRule littleEndian answerAt batchRule upTo answersAfter
+unfolding others l u evens odds rawLow rawHigh greatestLow leastHigh belowBy aboveBy offRange ofBits verdictOf confirmed refuted judgeRule littleEndian answerAt batchRule upTo answersAfter
 beside =
     (refl, refl) and (refl, refl) and (refl, refl) and (refl, refl) and (refl, refl) and (refl, refl) and refl and refl and refl
     and refl and refl and refl and (refl, refl) and tt

@@ -16,21 +16,21 @@ pub unique : Unique
 unique =
     record {
       sine = λ x d. one _;
-      lower-end = λ x m a d. one _;
-      upper-end = λ x m a d. one _;
-      enclose = λ m a d. one _;
-      propose = λ m a. one _;
+      lower-end = λ x g d. one _;
+      upper-end = λ x g d. one _;
+      enclose = λ g d. one _;
+      propose = λ g. one _;
       judge = λ c. one _;
       judge-claims = λ claims before r s e f. both (e .result ∙ sym (f .result)) (e .answers ∙ sym (f .answers));
       angle = λ n. one _;
       eccentricity = λ n. one _;
       depth = λ n. one _;
-      orbit = λ m a. one _;
-      question = λ x m a d. one _;
-      in-units = λ e. one _;
+      cell = λ g. one _;
+      problem = λ g d. one _;
+      in-units = λ x limit code. one _;
       answer-file = λ input before r s e f. both (e .result ∙ sym (f .result)) (e .answers ∙ sym (f .answers));
-      lowered = λ x n. one _;
-      raised = λ x n. one _;
-      bring = λ e. one _;
+      step-down = λ x n. one _;
+      step-up = λ x n. one _;
+      bring = λ z. one _;
       number-of = λ v. one _;
     }

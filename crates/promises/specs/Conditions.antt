@@ -10,11 +10,12 @@ use lib.Ieee.Positive.{den}
 use lib.ListN.{getD}
 use Rattle.grid.specs.Grid.{one, H-units, T-units, depths, N-units}
 use Rattle.grid.specs.Codes.{Check, m-check, a-check, depth-check, x-check, n-check}
-use Rattle.ends.specs.declared.Orbit.{Orbit}
+use Rattle.orbit.specs.declared.Cell.{Cell}
 use Rattle.ends.specs.Ends.{upperEnd}
 use Rattle.enclosure.specs.Enclosure.{T-check}
 use Rattle.units.specs.Units.{product, estimate-check}
-use Rattle.claims.specs.Record.{twenty, reserved-check}
+use Rattle.claims.specs.Form.{twenty}
+use Rattle.claims.specs.Record.{reserved-check}
 use Rattle.claims.specs.Batch.{length-check, answers-check}
 
 -- code 4: a NaN, infinite, below zero, or above T units; a finite estimate is product / den units in size
@@ -39,13 +40,13 @@ pub record Conditions : Type 0 where
   -- code 5
   pub n : (n : ℕ) → Exactly (n-check n) (N-units < n)
   -- code 6
-  pub top : (o : Orbit) (d : ℕ) → Exactly (T-check o d) (T (upperEnd o d T-units) → ⊥)
+  pub top : (c : Cell) (d : ℕ) → Exactly (T-check c d) (T (upperEnd c d T-units) → ⊥)
   -- code 7
-  pub bad-length : (bytes : ℕ) → Exactly (length-check twenty bytes) (bytes % 20 ≡ 0 → ⊥)
+  pub bad-length : (bytes : ℕ) → Exactly (length-check twenty bytes) (bytes % twenty .width ≡ 0 → ⊥)
   -- code 8
-  pub short-answers : (bytes room : ℕ) → Exactly (answers-check twenty bytes room) (room < bytes / 20)
-  -- code 9: the last of the record's 20 bytes
+  pub short-answers : (bytes room : ℕ) → Exactly (answers-check twenty bytes room) (room < bytes / twenty .width)
+  -- code 9: the reserved byte
   pub reserved : (claims : List ℕ) (start : ℕ)
-      → Exactly (reserved-check twenty claims start) (getD claims (start + 19) 0 ≡ 0 → ⊥)
+      → Exactly (reserved-check twenty claims start) (getD claims (start + twenty .reserved .at) 0 ≡ 0 → ⊥)
   -- code 10
   pub x : (x : ℕ) → Exactly (x-check x) (T-units < x)

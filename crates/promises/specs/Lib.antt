@@ -1,9 +1,8 @@
-pub mod Refuses
 pub mod Conditions
 pub mod Demand1
 pub mod Rules
 pub mod Demand2
 pub mod Demand3
-pub mod Laws
+pub mod Further
 pub mod Starred
 pub mod Unique

@@ -5,48 +5,46 @@ use Prim.Native.Nat.{ℕ, _/_, _≤_, _<_}
 use lib.Ieee.{Float}
 use lib.ListN.{length, getD}
 use Rattle.grid.specs.Codes.{number, done}
-use Rattle.grid.specs.Said.{Said}
-use Rattle.grid.specs.Make.{angleOf, eccentricityOf, depthOf, angleSays, eccentricitySays, depthSays}
+use Rattle.grid.specs.Make.{angleWith, codedAngle, eccentricityWith, codedEccentricity, depthWith, codedDepth}
 use Rattle.series.specs.Sine.{Lo, Hi}
 use Rattle.series.specs.Entry.{sineRule}
+use Rattle.units.specs.Units.{floorAndCeiling, unitsWith, codedEstimate}
+use Rattle.orbit.specs.Given.{Given, cellOf, cellWith, codedCell, problemAt, problemWith, codedProblem}
 use Rattle.ends.specs.Ends.{lowerEnd, upperEnd}
-use Rattle.ends.specs.Entry.{orbitAt, orbitOf, orbitSays, questionAt, questionOf, questionSays, flagged, lowerRule, upperRule}
-use Rattle.enclosure.specs.Enclosure.{lowerAnswer, upperAnswer, enclosureRule}
-use Rattle.rotations.specs.Rotate.{rotated}
-use Rattle.proposal.specs.Propose.{concluded, proposalRule}
-use Rattle.units.specs.Units.{floorAndCeiling, unitsOf, unitsSays}
+use Rattle.ends.specs.Entry.{flagged, lowerRule, upperRule}
+use Rattle.enclosure.specs.Enclosure.{enclosed, enclosureRule}
+use Rattle.proposal.specs.Propose.{proposed, proposalRule}
 use Rattle.judge.specs.Verdict.{verdictNumber}
-use Rattle.judge.specs.Judge.{caseAt, caseOf, caseSays, caseVerdict, verdict, judgeRule}
-use Rattle.judge.specs.declared.Claim.{Claim}
-use Rattle.claims.specs.Record.{twenty, claimAt, answerAt}
-use Rattle.claims.specs.Answer.{Answer}
-use Rattle.claims.specs.Batch.{answersAfter}
+use Rattle.judge.specs.Judge.{Claim, caseAt, caseVerdict, verdict, judgeRule}
+use Rattle.claims.specs.Form.{twenty}
+use Rattle.claims.specs.Record.{claimAt, answerAt}
+use Rattle.claims.specs.AnswerByte.{AnswerByte}
+use Rattle.claims.specs.Batch.{batchWith, answersAfter}
 use Rattle.promises.specs.Demand1.{codeOfByte, batchOf}
 
 -- the answer byte of record i, in the buffer as the batch leaves it
 abbrev pub byteAfter : List ℕ → List ℕ → ℕ → ℕ
 byteAfter claims answers i = getD (answersAfter twenty claims answers) i 0
 
--- what a checked constructor says where no check fails: the value made
-abbrev pub Gives : {A : Type 0} → Said A → A → Type 0
-Gives said value = said .code ≡ number done → said ≡ record { code = number done; value = value }
+-- an answer with code 0 is the one given
+abbrev pub Gives : {A : Type 0} → (A → ℕ) → A → A → Type 0
+Gives code answer given = code answer ≡ number done → answer ≡ given
 
 pub record Rules : Type 0 where
   -- R16
-  pub sine : (x d : ℕ) → sineRule x d .code ≡ number done → sineRule x d ≡ record { code = number done; lo = Lo x d; hi = Hi x d }
+  pub sine : (x d : ℕ) → Gives (λ r. r .code) (sineRule x d) (record { code = number done; lo = Lo x d; hi = Hi x d })
   -- R24
-  pub lower-end : (x m a d : ℕ) → lowerRule x m a d .code ≡ number done → lowerRule x m a d ≡ flagged (lowerEnd (orbitAt m a) d x)
-  pub upper-end : (x m a d : ℕ) → upperRule x m a d .code ≡ number done → upperRule x m a d ≡ flagged (upperEnd (orbitAt m a) d x)
+  pub lower-end : (x : ℕ) (g : Given) (d : ℕ) → Gives (λ r. r .code) (lowerRule x g d) (flagged (lowerEnd (cellOf g) d x))
+  pub upper-end : (x : ℕ) (g : Given) (d : ℕ) → Gives (λ r. r .code) (upperRule x g d) (flagged (upperEnd (cellOf g) d x))
   -- R31
-  pub enclose : (m a d : ℕ) → enclosureRule m a d .code ≡ number done
-      → enclosureRule m a d ≡ record { code = number done; a = lowerAnswer (orbitAt m a) d; b = upperAnswer (orbitAt m a) d }
+  pub enclose : (g : Given) (d : ℕ) → Gives (λ r. r .code) (enclosureRule g d) (enclosed (cellOf g) d)
   -- R40: the 50 rotations, E brought into 0 to T, and its certificate
-  pub propose : (m a : ℕ) → proposalRule m a .code ≡ number done → proposalRule m a ≡ concluded (orbitAt m a) (rotated (orbitAt m a))
+  pub propose : (g : Given) → Gives (λ r. r .code) (proposalRule g) (proposed (cellOf g))
   -- R48
-  pub judge : (c : Claim) → judgeRule c .code ≡ number done → judgeRule c ≡ verdict (caseVerdict (caseAt c))
+  pub judge : (c : Claim) → Gives (λ r. r .code) (judgeRule c) (verdict (caseVerdict (caseAt c)))
   -- R51
-  pub count : (claims answers : List ℕ) → batchOf claims answers .code ≡ number done
-      → batchOf claims answers ≡ record { code = number done; count = length claims / 20 }
+  pub count : (claims answers : List ℕ)
+      → Gives (λ r. r .code) (batchOf claims answers) (batchWith (number done) (length claims / twenty .width))
   -- R52
   pub written : (claims answers : List ℕ) (i : ℕ) → i < batchOf claims answers .count
       → byteAfter claims answers i ≡ answerAt twenty claims i
@@ -54,15 +52,14 @@ pub record Rules : Type 0 where
       → byteAfter claims answers i ≡ getD answers i 0
   pub room : (claims answers : List ℕ) → length (answersAfter twenty claims answers) ≡ length answers
   -- R50: a byte that is no code is the verdict on the record's claim
-  pub byte : (claims : List ℕ) (i : ℕ) → codeOfByte (answerAt twenty claims i) ≡ number done
-      → answerAt twenty claims i ≡ verdictNumber (caseVerdict (caseAt (claimAt twenty claims i)))
+  pub byte : (claims : List ℕ) (i : ℕ)
+      → Gives codeOfByte (answerAt twenty claims i) (verdictNumber (caseVerdict (caseAt (claimAt twenty claims i))))
   -- R50: and there are eight bytes that can answer, of claims that are bytes
-  pub one-of-eight : (claims : List ℕ) → ((k : ℕ) → getD claims k 0 < 256) → (i : ℕ) → Answer (answerAt twenty claims i)
+  pub one-of-eight : (claims : List ℕ) → ((k : ℕ) → getD claims k 0 < 256) → (i : ℕ) → AnswerByte (answerAt twenty claims i)
   -- R4: what the checked constructors make; R41: f and c
-  pub angle : (x : ℕ) → Gives (angleSays (angleOf x)) (record { units = x })
-  pub eccentricity : (a : ℕ) → Gives (eccentricitySays (eccentricityOf a)) (record { units = a })
-  pub depth : (d : ℕ) → Gives (depthSays (depthOf d)) (record { pairs = d })
-  pub orbit : (m a : ℕ) → Gives (orbitSays (orbitOf m a)) (orbitAt m a)
-  pub question : (x m a d : ℕ) → Gives (questionSays (questionOf x m a d)) (questionAt x m a d)
-  pub in-units : (x : Float) → Gives (unitsSays (unitsOf x)) (floorAndCeiling x)
-  pub claim : (c : Claim) → Gives (caseSays (caseOf c)) (caseAt c)
+  pub angle : (x : ℕ) → Gives (λ r. r .code) (codedAngle x) (angleWith (number done) x)
+  pub eccentricity : (a : ℕ) → Gives (λ r. r .code) (codedEccentricity a) (eccentricityWith (number done) a)
+  pub depth : (d : ℕ) → Gives (λ r. r .code) (codedDepth d) (depthWith (number done) d)
+  pub cell : (g : Given) → Gives (λ r. r .code) (codedCell g) (cellWith (number done) (cellOf g))
+  pub problem : (g : Given) (d : ℕ) → Gives (λ r. r .code) (codedProblem g d) (problemWith (number done) (problemAt (cellOf g) d))
+  pub estimate : (x : Float) → Gives (λ r. r .code) (codedEstimate x) (unitsWith (number done) (floorAndCeiling x))

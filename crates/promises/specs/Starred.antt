@@ -11,14 +11,14 @@ use Rattle.grid.specs.Codes.{Code, number, done, bad-m, bad-a, bad-estimate, ba
 use Rattle.series.specs.Bounds.{rawLow, rawHigh}
 use Rattle.series.specs.Sine as series
 use Rattle.series.specs.Entry.{sineRule}
+use Rattle.orbit.specs.Given.{grid}
 use Rattle.ends.specs.Entry.{flagged, lowerRule, upperRule}
 use Rattle.enclosure.specs.Enclosure.{enclosureRule}
-use Rattle.units.specs.Units.{unitsOf, unitsSays}
-use Rattle.units.specs.declared.UnitsOr.the-variants.{Made}
+use Rattle.units.specs.Units.{unitsWith, codedEstimate}
 use Rattle.judge.specs.Judge.{verdict, judgeRule}
 use Rattle.judge.specs.declared.Verdict.{Verdict}
 use Rattle.judge.specs.declared.Verdict.the-variants.{Confirmed, Refuted, Undecided}
-use Rattle.claims.specs.Record.{twenty}
+use Rattle.claims.specs.Form.{twenty}
 use Rattle.claims.specs.Batch.{batchRule, answersAfter}
 
 -- a line: an entry's numbers, and what it answers to them
@@ -50,14 +50,14 @@ abbrev pub Holds : Row → Type 0
 Holds (sine X d lo hi) = Bounds X d lo hi
 Holds (sine-any X lo hi) = (d : ℕ) → 1 ≤ d → d ≤ depths → Bounds X d lo hi
 Holds (raw X d lo hi) = (rawLow series.sine X d ≡ pos lo) × (rawHigh series.sine X d ≡ pos hi)
-Holds (lower M A X d t) = lowerRule X M A d ≡ flagged t
-Holds (upper M A X d t) = upperRule X M A d ≡ flagged t
-Holds (ends M A d k a b) = enclosureRule M A d ≡ record { code = number k; a = a; b = b }
-Holds (estimate bits f c) = unitsOf (ofBits binary64 bits) ≡ Made (record { f = f; c = c })
-Holds (code M A X k) = (lowerRule X M A 1 .code ≡ number k) × (upperRule X M A 1 .code ≡ number k)
-Holds (estimate-code bits k) = unitsSays (unitsOf (ofBits binary64 bits)) .code ≡ number k
+Holds (lower M A X d t) = lowerRule X (grid M A) d ≡ flagged t
+Holds (upper M A X d t) = upperRule X (grid M A) d ≡ flagged t
+Holds (ends M A d k a b) = enclosureRule (grid M A) d ≡ record { code = number k; a = a; b = b }
+Holds (estimate bits f c) = codedEstimate (ofBits binary64 bits) ≡ unitsWith (number done) (record { floor = f; ceiling = c })
+Holds (code M A X k) = (lowerRule X (grid M A) 1 .code ≡ number k) × (upperRule X (grid M A) 1 .code ≡ number k)
+Holds (estimate-code bits k) = codedEstimate (ofBits binary64 bits) .code ≡ number k
 Holds (judged M A bits N d v) =
-    judgeRule (record { m = M; a = A; estimate = ofBits binary64 bits; n = N; depth = d }) ≡ verdict v
+    judgeRule (record { given = grid M A; estimate = ofBits binary64 bits; n = N; depth = d }) ≡ verdict v
 Holds (batch claims answers n after) =
     (batchRule twenty (length claims) (length answers) ≡ record { code = number done; count = n })
     × (answersAfter twenty claims answers ≡ after)
@@ -133,4 +133,4 @@ pub record Starred : Type 0 where
   -- R13: at T both bounds lie below zero
   pub below-zero : sineRule T-units depths ≡ record { code = number done; lo = negsuc 68; hi = negsuc 56 }
   -- R32
-  pub circle : (m d : ℕ) → m ≤ H-units → 1 ≤ d → d ≤ depths → enclosureRule m 0 d ≡ record { code = number done; a = m; b = m }
+  pub circle : (m d : ℕ) → m ≤ H-units → 1 ≤ d → d ≤ depths → enclosureRule (grid m 0) d ≡ record { code = number done; a = m; b = m }

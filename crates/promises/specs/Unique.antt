@@ -7,29 +7,29 @@ use lib.IntN.{ℤ}
 use lib.Ieee.{Float}
 use lib.ListN.{length}
 use Rattle.grid.specs.Grid.{T-units}
-use Rattle.grid.specs.Make.{angleOf, eccentricityOf, depthOf}
-use Rattle.grid.specs.declared.AngleOr.{AngleOr}
-use Rattle.grid.specs.declared.EccentricityOr.{EccentricityOr}
-use Rattle.grid.specs.declared.DepthOr.{DepthOr}
+use Rattle.grid.specs.Make.{codedAngle, codedEccentricity, codedDepth}
+use Rattle.grid.specs.declared.CodedAngle.{CodedAngle}
+use Rattle.grid.specs.declared.CodedEccentricity.{CodedEccentricity}
+use Rattle.grid.specs.declared.CodedDepth.{CodedDepth}
 use Rattle.series.specs.Entry.{sineRule}
 use Rattle.series.specs.declared.SineBounds.{SineBounds}
-use Rattle.ends.specs.Entry.{orbitOf, questionOf, lowerRule, upperRule}
-use Rattle.ends.specs.declared.OrbitOr.{OrbitOr}
-use Rattle.ends.specs.declared.QuestionOr.{QuestionOr}
+use Rattle.orbit.specs.Given.{Given, codedCell, codedProblem}
+use Rattle.orbit.specs.declared.CodedCell.{CodedCell}
+use Rattle.orbit.specs.declared.CodedProblem.{CodedProblem}
+use Rattle.ends.specs.Entry.{lowerRule, upperRule}
 use Rattle.ends.specs.declared.End.{End}
 use Rattle.enclosure.specs.Enclosure.{enclosureRule}
 use Rattle.enclosure.specs.declared.Enclosure.{Enclosure}
 use Rattle.rotations.specs.Rotate.{brought}
 use Rattle.proposal.specs.Propose.{proposalRule}
 use Rattle.proposal.specs.declared.Proposal.{Proposal}
-use Rattle.units.specs.Units.{unitsOf}
-use Rattle.units.specs.declared.UnitsOr.{UnitsOr}
+use Rattle.units.specs.Units.{codedUnits}
+use Rattle.units.specs.declared.CodedUnits.{CodedUnits}
 use Rattle.judge.specs.Verdict.{verdictNumber}
-use Rattle.judge.specs.Judge.{judgeRule}
-use Rattle.judge.specs.declared.Claim.{Claim}
+use Rattle.judge.specs.Judge.{Claim, judgeRule}
 use Rattle.judge.specs.declared.Judged.{Judged}
 use Rattle.judge.specs.declared.Verdict.{Verdict}
-use Rattle.claims.specs.Record.{twenty}
+use Rattle.claims.specs.Form.{twenty}
 use Rattle.claims.specs.Batch.{batchRule, answersAfter}
 use Rattle.claims.specs.declared.Batch.{Batch}
 use Rattle.claim_file.specs.File.{output, outputIn}
@@ -53,22 +53,22 @@ pub record FileAllows (input before : List ℕ) (l : Left ℕ) : Type 0 where
 
 pub record Unique : Type 0 where
   pub sine : (x depth : ℕ) → OneResult (λ (r : SineBounds). r ≡ sineRule x depth)
-  pub lower-end : (x m a depth : ℕ) → OneResult (λ (r : End). r ≡ lowerRule x m a depth)
-  pub upper-end : (x m a depth : ℕ) → OneResult (λ (r : End). r ≡ upperRule x m a depth)
-  pub enclose : (m a depth : ℕ) → OneResult (λ (r : Enclosure). r ≡ enclosureRule m a depth)
-  pub propose : (m a : ℕ) → OneResult (λ (r : Proposal). r ≡ proposalRule m a)
+  pub lower-end : (x : ℕ) (g : Given) (depth : ℕ) → OneResult (λ (r : End). r ≡ lowerRule x g depth)
+  pub upper-end : (x : ℕ) (g : Given) (depth : ℕ) → OneResult (λ (r : End). r ≡ upperRule x g depth)
+  pub enclose : (g : Given) (depth : ℕ) → OneResult (λ (r : Enclosure). r ≡ enclosureRule g depth)
+  pub propose : (g : Given) → OneResult (λ (r : Proposal). r ≡ proposalRule g)
   pub judge : (claim : Claim) → OneResult (λ (r : Judged). r ≡ judgeRule claim)
   pub judge-claims : (claims before : List ℕ) → OneResult (BatchAllows claims before)
   -- the checked constructors, and a double in units
-  pub angle : (units : ℕ) → OneResult (λ (r : AngleOr). r ≡ angleOf units)
-  pub eccentricity : (units : ℕ) → OneResult (λ (r : EccentricityOr). r ≡ eccentricityOf units)
-  pub depth : (pairs : ℕ) → OneResult (λ (r : DepthOr). r ≡ depthOf pairs)
-  pub orbit : (m a : ℕ) → OneResult (λ (r : OrbitOr). r ≡ orbitOf m a)
-  pub question : (x m a depth : ℕ) → OneResult (λ (r : QuestionOr). r ≡ questionOf x m a depth)
-  pub in-units : (estimate : Float) → OneResult (λ (r : UnitsOr). r ≡ unitsOf estimate)
+  pub angle : (units : ℕ) → OneResult (λ (r : CodedAngle). r ≡ codedAngle units)
+  pub eccentricity : (units : ℕ) → OneResult (λ (r : CodedEccentricity). r ≡ codedEccentricity units)
+  pub depth : (pairs : ℕ) → OneResult (λ (r : CodedDepth). r ≡ codedDepth pairs)
+  pub cell : (g : Given) → OneResult (λ (r : CodedCell). r ≡ codedCell g)
+  pub problem : (g : Given) (depth : ℕ) → OneResult (λ (r : CodedProblem). r ≡ codedProblem g depth)
+  pub in-units : (value : Float) (limit code : ℕ) → OneResult (λ (r : CodedUnits). r ≡ codedUnits value limit code)
   -- the functions that crates share: the program's, the clamps into 0 to T, and a verdict's number
   pub answer-file : (input before : List ℕ) → OneResult (FileAllows input before)
-  pub lowered : (x n : ℕ) → OneResult (λ (r : ℕ). r ≡ x - n)
-  pub raised : (x n : ℕ) → OneResult (λ (r : ℕ). r ≡ min (x + n) T-units)
-  pub bring : (e : ℤ) → OneResult (λ (r : ℕ). r ≡ brought e)
+  pub step-down : (x n : ℕ) → OneResult (λ (r : ℕ). r ≡ x - n)
+  pub step-up : (x n : ℕ) → OneResult (λ (r : ℕ). r ≡ min (x + n) T-units)
+  pub bring : (angle : ℤ) → OneResult (λ (r : ℕ). r ≡ brought angle)
   pub number-of : (v : Verdict) → OneResult (λ (r : ℕ). r ≡ verdictNumber v)

@@ -1,10 +1,11 @@
--- What the rules promise of their own numbers, beside the demands: sums, ends, searches, tables, estimates and the program.
+-- What the rules promise further, beside the demands: of sums, ends, searches, tables, estimates and the program.
 use mathlib.Core.Path.{_≡_}
 use mathlib.Core.Bool.{Bool, true, false}
 use mathlib.Core.List.{List, []}
+use mathlib.Core.Logic.{_↔_}
 use Prim.Native.Nat.{ℕ, suc, _+_, _*_, _/_, _%_, _^_, _≤_, _<_}
 use lib.Dec.{T}
-use lib.IntN.{pos, _*ℤ_}
+use lib.IntN.{ℤ, pos, _*ℤ_}
 use lib.Signed.{_≤ℤ_}
 use lib.Ieee.{Float, binary64, ofBits, fits, mul}
 use lib.Ieee.Positive.{den}
@@ -14,9 +15,12 @@ use Rattle.grid.specs.Codes.{number, done, no-upper-end}
 use Rattle.series.specs.Exact as exact
 use Rattle.series.specs.Factorial.{factorial}
 use Rattle.series.specs.Sine.{sine, Lo, Hi}
+use Rattle.orbit.specs.Cell.{orbitAt}
+use Rattle.orbit.specs.Given.{Given, cellOf, exactOf}
+use Rattle.orbit.specs.declared.Cell.{Cell}
+use Rattle.ends.specs.Ends.{belowAt, aboveAt, belowBy, aboveBy}
 use Rattle.ends.specs.Entry.{flagged, lowerRule, upperRule}
 use Rattle.ends.specs.Exact.{LowerExact, UpperExact}
-use Rattle.ends.specs.declared.Orbit.{Orbit}
 use Rattle.enclosure.specs.Halving.{lastBracket}
 use Rattle.enclosure.specs.Enclosure.{enclosureRule}
 use Rattle.rotations.specs.Atan.{atan}
@@ -24,11 +28,10 @@ use Rattle.rotations.specs.Table.{entries, table, entry, RoundedDown, G, Scaled
 use Rattle.rotations.specs.declared.State.{State}
 use Rattle.proposal.specs.Certify.{lowAt, highAt, certifies, certificate, widths, Smallest}
 use Rattle.proposal.specs.Propose.{concluded}
-use Rattle.units.specs.Units.{product, unitsOf}
+use Rattle.units.specs.Units.{product, unitsWith, codedEstimate}
 use Rattle.units.specs.Exact.{radian, Value, Rounded}
-use Rattle.units.specs.declared.Units.{Units}
-use Rattle.units.specs.declared.UnitsOr.the-variants.{Made}
-use Rattle.claims.specs.Record.{twenty, answerAt}
+use Rattle.claims.specs.Form.{twenty}
+use Rattle.claims.specs.Record.{answerAt}
 use Rattle.claims.specs.Batch.{upTo}
 use Rattle.claim_file.specs.File.{most-bytes, output}
 
@@ -47,18 +50,23 @@ pub record Sums : Type 0 where
   pub high-falls : (X d e : ℕ) → d ≤ e → Hi X e ≤ℤ Hi X d
 
 pub record Ends : Type 0 where
+  -- R17, R18: a cell's test holds exactly where the grid's holds at both corners, by any bound
+  pub lower-corners : (c : Cell) (X : ℕ) (b : ℤ)
+      → T (belowBy c X b) ↔ T (belowAt (orbitAt (c .m .down) (c .a .down)) X b) × T (belowAt (orbitAt (c .m .down) (c .a .up)) X b)
+  pub upper-corners : (c : Cell) (X : ℕ) (b : ℤ)
+      → T (aboveBy c X b) ↔ T (aboveAt (orbitAt (c .m .up) (c .a .down)) X b) × T (aboveAt (orbitAt (c .m .up) (c .a .up)) X b)
   -- R22
-  pub lower-deeper : (x m a d e : ℕ) → d ≤ e → e ≤ depths → lowerRule x m a d ≡ flagged true → lowerRule x m a e ≡ flagged true
-  pub upper-deeper : (x m a d e : ℕ) → d ≤ e → e ≤ depths → upperRule x m a d ≡ flagged true → upperRule x m a e ≡ flagged true
+  pub lower-deeper : (x : ℕ) (g : Given) (d e : ℕ) → d ≤ e → e ≤ depths → lowerRule x g d ≡ flagged true → lowerRule x g e ≡ flagged true
+  pub upper-deeper : (x : ℕ) (g : Given) (d e : ℕ) → d ≤ e → e ≤ depths → upperRule x g d ≡ flagged true → upperRule x g e ≡ flagged true
   -- R23
-  pub zero-always : (m a d : ℕ) → lowerRule 0 m a d .code ≡ number done → lowerRule 0 m a d ≡ flagged true
-  pub T-never : (m a d : ℕ) → lowerRule T-units m a d .code ≡ number done → lowerRule T-units m a d ≡ flagged false
+  pub zero-always : (g : Given) (d : ℕ) → lowerRule 0 g d .code ≡ number done → lowerRule 0 g d ≡ flagged true
+  pub T-never : (g : Given) (d : ℕ) → lowerRule T-units g d .code ≡ number done → lowerRule T-units g d ≡ flagged false
 
 pub record Searches : Type 0 where
   -- R25: the last bracket of a search is closed, for any test and any top up to 2^30
   pub closed : (test : ℕ → Bool) (top : ℕ) → 0 < top → top ≤ 2 ^ 30 → lastBracket test top .q ≡ lastBracket test top .p + 1
   -- R28
-  pub never-6 : (m a d : ℕ) → 4 ≤ d → enclosureRule m a d .code ≡ number no-upper-end → ⊥
+  pub never-6 : (g : Given) (d : ℕ) → 4 ≤ d → enclosureRule g d .code ≡ number no-upper-end → ⊥
 
 pub record Proposals : Type 0 where
   -- R33: 25 entries, each the floor of its fraction, and no fraction over 0
@@ -68,27 +76,30 @@ pub record Proposals : Type 0 where
   -- R34
   pub G-right : Scaled G
   -- R39: a smallest width exists for every E from 0 to T, and after any rotations its ends meet R19's inequalities
-  pub exists : (o : Orbit) (E : ℕ) → o .m ≤ H-units → E ≤ T-units → Smallest (certifies o E) widths (certificate o E)
-  pub lower-true : (o : Orbit) (s : State) → o .m ≤ H-units → LowerExact o (lowAt (concluded o s .angle) (concluded o s .j))
-  pub upper-true : (o : Orbit) (s : State) → o .m ≤ H-units → UpperExact o (highAt (concluded o s .angle) (concluded o s .j))
+  pub exists : (c : Cell) (E : ℕ) → c .m .up ≤ H-units → E ≤ T-units → Smallest (certifies c E) widths (certificate c E)
+  pub lower-true : (g : Given) (s : State) → cellOf g .m .up ≤ H-units
+      → let r = concluded (cellOf g) s in LowerExact (exactOf g) (lowAt (r .angle) (r .j))
+  pub upper-true : (g : Given) (s : State) → cellOf g .m .up ≤ H-units
+      → let r = concluded (cellOf g) s in UpperExact (exactOf g) (highAt (r .angle) (r .j))
 
 pub record Estimates : Type 0 where
   -- R41: binary64's product of an estimate in range with 2^28 is exact
-  pub exact : (x : Float) (u : Units) → T (fits binary64 x) → unitsOf x ≡ Made u → Value (mul binary64 x radian) (product x) (den x)
+  pub exact : (x : Float) → T (fits binary64 x) → codedEstimate x .code ≡ number done → Value (mul binary64 x radian) (product x) (den x)
   -- R41: f and c are its floor and its ceiling
-  pub rounded : (x : Float) (u : Units) → unitsOf x ≡ Made u → Rounded (product x) (den x) (u .f) (u .c)
+  pub rounded : (x : Float) → codedEstimate x .code ≡ number done
+      → let u = codedEstimate x .units in Rounded (product x) (den x) (u .floor) (u .ceiling)
   -- R41: minus zero, by its bits
-  pub minus-zero : unitsOf (ofBits binary64 0x8000000000000000) ≡ Made (record { f = 0; c = 0 })
+  pub minus-zero : codedEstimate (ofBits binary64 0x8000000000000000) ≡ unitsWith (number done) (record { floor = 0; ceiling = 0 })
 
 pub record Program : Type 0 where
   -- R53: the answer bytes, one for each claim
-  pub whole : (input : List ℕ) → length input ≤ most-bytes → length input % 20 ≡ 0
-      → output input ≡ upTo (answerAt twenty input) (length input / 20)
+  pub complete : (input : List ℕ) → length input ≤ most-bytes → length input % twenty .width ≡ 0
+      → output input ≡ upTo (answerAt twenty input) (length input / twenty .width)
   -- R53: nothing for a longer input, or for one that ends within a record
   pub longer : (input : List ℕ) → most-bytes < length input → output input ≡ []
-  pub cut : (input : List ℕ) → length input ≤ most-bytes → (length input % 20 ≡ 0 → ⊥) → output input ≡ []
+  pub cut : (input : List ℕ) → length input ≤ most-bytes → (length input % twenty .width ≡ 0 → ⊥) → output input ≡ []
 
-pub record Laws : Type 0 where
+pub record Further : Type 0 where
   pub sums : Sums
   pub ends : Ends
   pub searches : Searches

@@ -1,0 +1,115 @@
+-- The further promises of the rules are kept. Assumes nothing.
+use mathlib.Core.Path.{_≡_, refl}
+use mathlib.Core.Bool.{Bool, true, false}
+use mathlib.Core.List.{[], _∷_}
+use Prim.Native.Nat.{ℕ, _+_, _^_, _≤_, _<_}
+use native.Mathlib.Omega.{arith}
+use lib.Ieee.{binary64, ofBits}
+use Rattle.grid.specs.Grid.{T-units, depths}
+use Rattle.grid.specs.Codes.{Passed, depth-check}
+use Rattle.grid.proofs.FirstCode.{split, join}
+use Rattle.grid.proofs.Fits.{depth-passes}
+use Rattle.series.proofs.Factorial.{den-is, num-is}
+use Rattle.series.proofs.Falling.{sine-odd-never-falls, sine-even-never-rises}
+use Rattle.series.proofs.Deeper.{Lo-rises, Hi-falls}
+use Rattle.orbit.specs.Given.{Given, checksOf, cellOf, problemChecks}
+use Rattle.ends.specs.Entry.{flagged, endRule}
+use Rattle.ends.proofs.Corners as tests
+use Rattle.ends.proofs.Known.{zero-lower, T-never}
+use Rattle.enclosure.specs.Halving.{widest, lastBracket}
+use Rattle.enclosure.proofs.Halving.{thirty-end, turns-inside}
+use Rattle.enclosure.proofs.Encloses.{never-six}
+use Rattle.rotations.specs.Table.{table}
+use Rattle.rotations.proofs.Table.{entry-right, den-pos, G-right}
+use Rattle.proposal.proofs.Certificate.{certified, concluded-true}
+use Rattle.units.specs.Units.{offRange, unitsWith, codedEstimate}
+use Rattle.units.proofs.Rounding.{made-exact, made-rounded}
+use Rattle.claim_file.proofs.Output as program
+use Rattle.promises.specs.Further.{Sums, Ends, Searches, Proposals, Estimates, Further}
+use Rattle.promises.proofs.Ends.{posed, accepted-says, accepts, declines}
+
+sums : Sums
+sums =
+    record {
+      denominator = den-is;
+      numerator = num-is;
+      odd-never-falls = sine-odd-never-falls;
+      even-never-rises = sine-even-never-rises;
+      low-rises = Lo-rises;
+      high-falls = Hi-falls;
+    }
+
+-- ---- the end tests
+
+-- at a greater depth, for either end
+deeper : (upper : Bool) (x : ℕ) (g : Given) (d e : ℕ) → d ≤ e → e ≤ depths
+    → endRule upper x g d ≡ flagged true → endRule upper x g e ≡ flagged true
+deeper upper x g d e h few s =
+    let (f, t) = accepted-says upper x g d s in
+    let some = f .problem .depth .some in
+    let (cell, depth) = split (checksOf g) (depth-check d ∷ []) (f .checks) in
+    accepts upper x g e (join (checksOf g) (depth-check e ∷ []) cell (depth-passes e (omega arith) few, tt)) (f .angle)
+    (tests.deeper upper (cellOf g) x h t)
+
+end-laws : Ends
+end-laws =
+    record {
+      lower-corners = tests.below-corners;
+      upper-corners = tests.above-corners;
+      lower-deeper = deeper false;
+      upper-deeper = deeper true;
+      zero-always = λ g d e.
+          let f = posed false 0 g d e in accepts false 0 g d (f .checks) (f .angle) (zero-lower (cellOf g) d);
+      T-never = λ g d e.
+          let f = posed false T-units g d e in
+          declines false T-units g d (f .checks) (f .angle) (T-never (cellOf g) d (f .problem .cell) (f .problem .depth .few));
+    }
+
+-- ---- the searches
+
+closed : (test : ℕ → Bool) (top : ℕ) → 0 < top → top ≤ 2 ^ 30 → lastBracket test top .q ≡ lastBracket test top .p + 1
+closed test top some few =
+    let narrow = thirty-end test top few in
+    let inside = turns-inside test 30 (widest top) some .order in
+    omega arith
+
+searches : Searches
+searches = record { closed = closed; never-6 = never-six }
+
+proposals : Proposals
+unfolding table
+proposals =
+    record {
+      count = refl;
+      table-right = entry-right;
+      over-0 = den-pos;
+      G-right = G-right;
+      exists = λ c E m x. certified c E m x;
+      lower-true = λ g s m. concluded-true g s m .0;
+      upper-true = λ g s m. concluded-true g s m .1;
+    }
+
+-- ---- an estimate
+
+minus-zero : codedEstimate (ofBits binary64 0x8000000000000000) ≡ unitsWith 0 (record { floor = 0; ceiling = 0 })
+unfolding offRange ofBits
+minus-zero = refl
+
+estimates : Estimates
+estimates =
+    record {
+      exact = λ x t e. made-exact x (codedEstimate x) refl e t;
+      rounded = λ x e. made-rounded x (codedEstimate x) refl e;
+      minus-zero = minus-zero;
+    }
+
+pub further : Further
+further =
+    record {
+      sums = sums;
+      ends = end-laws;
+      searches = searches;
+      proposals = proposals;
+      estimates = estimates;
+      program = record { complete = program.complete; longer = program.longer; cut = program.cut };
+    }
