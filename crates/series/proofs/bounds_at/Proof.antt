@@ -1,71 +1,91 @@
 -- `series::bounds_at` meets its contract: one pair of terms after the other, up to the depth. Assumes nothing.
-use mathlib.Core.Path.{_≡_, ap, ap₂, _∙_}
-use Prim.Native.Nat.{ℕ, suc, _-_, _≤_}
+use mathlib.Core.Path.{_≡_, sym, ap, _∙_}
+use Prim.Native.Nat.{ℕ, suc}
 use native.Mathlib.Omega.{arith}
-use borrow.Author.Needs.{needs}
+use lib.Dec.{lit<}
 use Rattle.series.specs.Sine.{sine}
-use Rattle.series.specs.Walk.{walk}
+use Rattle.series.specs.Walk.{walk, biasedBounds}
 use Rattle.series.specs.declared.Walk.{Walk}
-use Rattle.series.proofs.CodeWalk.{begins, unfinished, onward, own-pairs, walked-own, bounds}
+use Rattle.series.specs.declared.Biased.{Biased}
+use Rattle.series.proofs.CodeRange.{sine-in-range}
+use Rattle.series.proofs.CodePair.{pair-fits, paired}
+use Rattle.series.proofs.CodeWalk.{begins, bounds}
 use Rattle.series.proofs.bounds_at.Statement.{statement}
 use Rattle.series.proofs.bounds_at.Tie as tie
 
-abbrev Inv-loop : tie.InvT-loop
-Inv-loop depth w₀ w = (w ≡ walk sine (w₀ .angle) (w .pairs)) × (w .pairs ≤ depth)
+-- the walk after each pair
+after-0 : (c : tie.After-begin) → c .begin .result ≡ walk sine (c .before .args .x .units) 0
+after-0 c = c .begin .ensures ∙ begins sine _
 
-abbrev μ-loop : tie.MeasureT-loop
-μ-loop depth w₀ w = depth - w .pairs
+after-1 : (c : tie.After-deepen) → c .deepen .result ≡ walk sine (c .before .before .args .x .units) 1
+after-1 c = paired sine _ (sine-in-range _ (c .before .before .pre .0 .top)) 0 (lit< tt) _ (after-0 (c .before)) _ (c .deepen .ensures)
 
-angle-is : (c : tie.After-begin Inv-loop μ-loop) → c .begin .result .angle ≡ c .before .before .args .x .units
-angle-is c = ap (λ (v : Walk). v .angle) (c .begin .ensures)
+after-2 : (c : tie.After-deepen2) → c .deepen2 .result ≡ walk sine (c .before .before .before .before .args .x .units) 2
+after-2 c = paired sine _ (sine-in-range _ (c .before .before .before .before .pre .0 .top)) 1 (lit< tt) _ (after-1 (c .before .before)) _ (c .deepen2 .ensures)
 
-next : (c : tie.After-further Inv-loop μ-loop) →
-    c .further .result ≡ walk sine (c .before .before .before .before .begin .result .angle) (suc (c .before .before .before .loop .w .pairs))
-next c = onward _ _ _ (c .before .before .before .loop .inv .0) _ (c .further .ensures)
+after-3 : (c : tie.After-deepen3) → c .deepen3 .result ≡ walk sine (c .before .before .before .before .before .before .args .x .units) 3
+after-3 c = paired sine _ (sine-in-range _ (c .before .before .before .before .before .before .pre .0 .top)) 2 (lit< tt) _ (after-2 (c .before .before)) _ (c .deepen3 .ensures)
 
-pairs-is : (c : tie.After-further Inv-loop μ-loop) → c .further .result .pairs ≡ suc (c .before .before .before .loop .w .pairs)
-pairs-is c = ap (λ (v : Walk). v .pairs) (next c)
+after-4 : (c : tie.After-deepen4) → c .deepen4 .result ≡ walk sine (c .before .before .before .before .before .before .before .before .args .x .units) 4
+after-4 c = paired sine _ (sine-in-range _ (c .before .before .before .before .before .before .before .before .pre .0 .top)) 3 (lit< tt) _ (after-3 (c .before .before)) _ (c .deepen4 .ensures)
 
-cast-depth : tie.Need-cast-depth Inv-loop μ-loop
-cast-depth c = search needs
+after-5 : (c : tie.After-deepen5) → c .deepen5 .result ≡ walk sine (c .before .before .before .before .before .before .before .before .before .before .args .x .units) 5
+after-5 c = paired sine _ (sine-in-range _ (c .before .before .before .before .before .before .before .before .before .before .pre .0 .top)) 4 (lit< tt) _ (after-4 (c .before .before)) _ (c .deepen5 .ensures)
 
-begin-requires : tie.Need-begin-requires Inv-loop μ-loop
-begin-requires c κs = let top = c .before .pre .0 .top in (top, omega arith)
+-- the bounds of a walk at the depth asked for
+at-depth : (w : Walk) (X n d : ℕ) → w ≡ walk sine X (suc n) → d ≡ suc n →
+    _≡_ {A = Biased} record { lo = w .greatest; hi = w .least } (biasedBounds sine X d)
+at-depth w X n d e f = bounds sine w X (suc n) (omega arith) e ∙ ap (biasedBounds sine X) (sym f)
 
-loop-holds : tie.Need-loop-holds Inv-loop μ-loop
-loop-holds c =
-    let e = ap (λ (v : Walk). v .pairs) (c .begin .ensures) in
-    (walked-own _ _ _ (c .begin .ensures ∙ begins sine _), omega arith)
+begin-requires : tie.Need-begin-requires
+begin-requires c κs = let top = c .pre .0 .top in (top, omega arith)
 
-further-requires : tie.Need-further-requires Inv-loop μ-loop
-further-requires c κs =
-    let b = c .before .before .before in
-    let p = b .before .before .pre in
-    let e = angle-is b in
-    unfinished _ _ _ (c .before .before .loop .inv .0) (omega (arith, p .0 .top)) (omega (arith, p .1 .few))
+deepen-requires : tie.Need-deepen-requires
+deepen-requires c κs = pair-fits sine _ (sine-in-range _ (c .before .pre .0 .top)) 0 (lit< tt) _ (after-0 c)
 
-loop-less : tie.Need-loop-less Inv-loop μ-loop
-loop-less c = let e = pairs-is c in omega arith
+returns : tie.Need-returns
+returns c = at-depth _ _ 0 _ (after-1 (c .before)) (c .if1 .taken)
 
-loop-again : tie.Need-loop-again Inv-loop μ-loop
-loop-again c = let e = pairs-is c in (own-pairs _ _ _ (next c), omega arith)
+deepen-requires-2 : tie.Need-deepen-requires-2
+deepen-requires-2 c κs = pair-fits sine _ (sine-in-range _ (c .before .before .before .pre .0 .top)) 1 (lit< tt) _ (after-1 (c .before))
 
-returns : tie.Need-returns Inv-loop μ-loop
-returns c =
-    let l = c .before .before in
-    bounds sine _ _ _ (l .before .before .before .pre .1 .some)
-    (l .loop .inv .0 ∙ ap₂ (λ (X n : ℕ). walk sine X n) (angle-is (l .before)) (omega arith))
+returns-2 : tie.Need-returns-2
+returns-2 c = at-depth _ _ 1 _ (after-2 (c .before)) (c .if2 .taken)
+
+deepen-requires-3 : tie.Need-deepen-requires-3
+deepen-requires-3 c κs = pair-fits sine _ (sine-in-range _ (c .before .before .before .before .before .pre .0 .top)) 2 (lit< tt) _ (after-2 (c .before))
+
+returns-3 : tie.Need-returns-3
+returns-3 c = at-depth _ _ 2 _ (after-3 (c .before)) (c .if3 .taken)
+
+deepen-requires-4 : tie.Need-deepen-requires-4
+deepen-requires-4 c κs = pair-fits sine _ (sine-in-range _ (c .before .before .before .before .before .before .before .pre .0 .top)) 3 (lit< tt) _ (after-3 (c .before))
+
+returns-4 : tie.Need-returns-4
+returns-4 c = at-depth _ _ 3 _ (after-4 (c .before)) (c .if4 .taken)
+
+deepen-requires-5 : tie.Need-deepen-requires-5
+deepen-requires-5 c κs = pair-fits sine _ (sine-in-range _ (c .before .before .before .before .before .before .before .before .before .pre .0 .top)) 4 (lit< tt) _ (after-4 (c .before))
+
+returns-5 : tie.Need-returns-5
+returns-5 c =
+    let depth = c .before .before .before .before .before .before .before .before .before .before .pre .1 in
+    let some = depth .some in
+    let few = depth .few in
+    at-depth _ _ 4 _ (after-5 c) (omega arith)
 
 pub bounds-at-spec : {M : Type 1} → statement M
 bounds-at-spec =
     tie.close
     (tie.spec
-    Inv-loop
-    μ-loop
-    cast-depth
     begin-requires
-    loop-holds
-    further-requires
-    loop-less
-    loop-again
-    returns)
+    deepen-requires
+    returns
+    deepen-requires-2
+    returns-2
+    deepen-requires-3
+    returns-3
+    deepen-requires-4
+    returns-4
+    deepen-requires-5
+    returns-5)
