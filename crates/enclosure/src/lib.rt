@@ -4,7 +4,7 @@ ghost use mathlib.Core.List.{[], _∷_};
 ghost use Rattle.grid.specs.Grid.{T-units};
 ghost use Rattle.grid.specs.Codes.{checked};
 ghost use Rattle.orbit.specs.Given.{grid, ProblemIn};
-ghost use Rattle.ends.specs.Sides.{Asked};
+ghost use Rattle.ends.specs.Corner.{Asked};
 ghost use Rattle.enclosure.specs.Halving.{lastBracket};
 ghost use Rattle.enclosure.specs.Enclosure.{T-check, refusal, enclosed, enclosureRule};
 ghost use Rattle.enclosure.specs.Moves.{movesP};

@@ -14,7 +14,7 @@ use Rattle.series.proofs.Deeper.{Lo-rises, Hi-falls}
 use Rattle.orbit.specs.Cell.{Orbit, orbitAt}
 use Rattle.orbit.specs.declared.Cell.{Cell}
 use Rattle.ends.specs.Ends.{belowAt, aboveAt, belowBy, aboveBy, endBy, boundOf, endAt}
-use Rattle.ends.proofs.Accepts as accepts
+use Rattle.ends.proofs.BothEnds as ends
 use Rattle.ends.proofs.Tests.{below-test, above-test}
 
 module _ (c : Cell) (X : ℕ) (b : ℤ) where
@@ -37,14 +37,14 @@ module _ (o : Orbit) (X : ℕ) (y z : ℤ) where
   below-better : y ≤ℤ z → T (belowAt o X y) → T (belowAt o X z)
   below-better h t =
       below-test o X z .1
-      (accepts.better (one * X) (one * o .m) (o .a) (plus y) (minus y) (plus z) (minus z) (le-parts (own y) (own z) .0 h)
+      (ends.better (one * X) (one * o .m) (o .a) (plus y) (minus y) (plus z) (minus z) (le-parts (own y) (own z) .0 h)
       (below-test o X y .0 t))
 
   above-better : z ≤ℤ y → T (aboveAt o X y) → T (aboveAt o X z)
   above-better h t =
       let k = le-parts (own z) (own y) .0 h in
       above-test o X z .1
-      (accepts.better (one * o .m) (one * X) (o .a) (minus y) (plus y) (minus z) (plus z) (omega arith) (above-test o X y .0 t))
+      (ends.better (one * o .m) (one * X) (o .a) (minus y) (plus y) (minus z) (plus z) (omega arith) (above-test o X y .0 t))
 
 pub better : (upper : Bool) (c : Cell) (X : ℕ) (y z : ℤ) → NoWorse upper y z → T (endBy upper c X y) → T (endBy upper c X z)
 better true c X y z h t =

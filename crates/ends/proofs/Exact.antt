@@ -17,7 +17,7 @@ use Rattle.orbit.specs.Cell.{Orbit, orbitAt, gridCell}
 use Rattle.orbit.specs.Given.{Given, grid, cellOf, exactOf}
 use Rattle.ends.specs.Ends.{belowAt, aboveAt, lowerEnd, upperEnd}
 use Rattle.ends.specs.Exact.{LowerExact, UpperExact, LowerSpare, UpperSpare}
-use Rattle.ends.proofs.Accepts.{accept, refuse}
+use Rattle.ends.proofs.BothEnds.{accept, refuse}
 use Rattle.ends.proofs.Corners.{below-corners, above-corners}
 use Rattle.ends.proofs.Tests.{below-test, above-test, lower-exact, upper-exact, lower-spares, upper-spares}
 

@@ -23,7 +23,7 @@ use Rattle.series.proofs.Next.{S9-parts}
 use Rattle.orbit.specs.Cell.{Orbit, orbitAt, gridCell, CellIn}
 use Rattle.orbit.specs.declared.Cell.{Cell}
 use Rattle.ends.specs.Ends.{belowAt, aboveAt, lowerEnd, upperEnd}
-use Rattle.ends.proofs.Accepts.{no-sine}
+use Rattle.ends.proofs.BothEnds.{no-sine}
 use Rattle.ends.proofs.Corners.{below-corners, above-corners, deeper}
 use Rattle.ends.proofs.Tests.{below-test, above-test, lower-exact}
 use Rattle.ends.proofs.Exact.{below-true}

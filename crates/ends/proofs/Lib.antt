@@ -1,4 +1,4 @@
-pub mod Accepts
+pub mod BothEnds
 pub mod Tests
 pub mod Corners
 pub mod Exact

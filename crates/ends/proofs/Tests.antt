@@ -13,7 +13,7 @@ use Rattle.series.proofs.Next.{S9-parts, S10-parts}
 use Rattle.orbit.specs.Cell.{Orbit}
 use Rattle.ends.specs.Ends.{belowAt, aboveAt}
 use Rattle.ends.specs.Exact.{LowerExact, UpperExact, LowerSpare, UpperSpare}
-use Rattle.ends.proofs.Accepts.{Accepts, Spares}
+use Rattle.ends.proofs.BothEnds.{Accepts, Spares}
 
 -- k (x - m)
 scaled : (k x m : ℕ) → Is (pos k *ℤ (pos x -ℤ pos m)) (k * (x + 0)) (k * (0 + m))

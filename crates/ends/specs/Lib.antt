@@ -1,4 +1,4 @@
 pub mod Ends
 pub mod Exact
 pub mod Entry
-pub mod Sides
+pub mod Corner

@@ -1,96 +1,127 @@
 // The two end tests: whether an angle is accepted as an end below or above the root.
 ghost use mathlib.Core.Path.{_≡_};
-ghost use Prim.Native.Nat.{_≤_, _*_};
-ghost use mathlib.Core.Bool.{cond};
-ghost use Rattle.series.specs.Walk.{bias};
+ghost use mathlib.Core.Bool.{not, _&&_};
+ghost use Prim.Native.Nat.{_+_, _*_};
+ghost use Rattle.orbit.specs.Cell.{orbitAt};
 ghost use Rattle.orbit.specs.Given.{grid};
 ghost use Rattle.ends.specs.Ends.{endAt, lowerEnd, upperEnd};
 ghost use Rattle.ends.specs.Entry.{endRule, lowerRule, upperRule, flagged};
-ghost use Rattle.ends.specs.Sides.{Asked, SidesIn, Fitting, sidesOf, fitting, boundTest};
+ghost use Rattle.ends.specs.Corner.{Asked, Settling, CornerIn, BoundIn, WalkIn, oneMean, cornerOf, testBy, ownBound};
 use grid::Angle;
+use grid::Depth;
 use grid::codes;
-use orbit::Cell;
 use orbit::Problem;
 use orbit::Span;
 use series::Walk;
 
-// 2^28 X and 2^28 M on the sides of a test, which no depth changes.
-struct Sides {
-    left: u64,
-    right: u64,
+// What no depth changes in the test of one M and one A: A, 2^28 M, and 2^28 X + A 2^34, so that no number is below 0.
+struct Corner {
+    shape: u64,
+    mean: u64,
+    level: u64,
 }
 
-fn sides_of(cell: Cell, x: u64, upper: bool) -> Sides
-    requires { ⌜ SidesIn cell x ⌝ }
-    ensures { λ r. ⌜ r ≡ sidesOf upper cell x ⌝ }
+fn corner_at(m: u64, a: u64, x: u64) -> Corner
+    requires { ⌜ CornerIn m a x ⌝ }
+    ensures { λ r. ⌜ r ≡ cornerOf (orbitAt m a) x ⌝ }
 {
-    let m = cell.m;
-    if upper {
-        Sides {
-            left: grid::ONE * m.up,
-            right: grid::ONE * x,
-        }
-    } else {
-        Sides {
-            left: grid::ONE * x,
-            right: grid::ONE * m.down,
-        }
+    Corner {
+        shape: a,
+        mean: grid::ONE * m,
+        level: grid::ONE * x + a * series::BIAS,
     }
 }
 
-// Whether left - right is at most more - less times every A of the span, with no number below 0.
-fn fits(s: Sides, a: Span, more: u64, less: u64) -> bool
-    requires { ⌜ Fitting s a more less ⌝ }
-    ensures { λ r. ⌜ r ≡ fitting s a more less ⌝ }
+// 2^28 M + A bound, for a biased bound.
+fn against(c: Corner, bound: u64) -> u64
+    requires { ⌜ BoundIn c bound ⌝ }
+    ensures { λ r. ⌜ r ≡ c .shape * bound + c .mean ⌝ }
 {
-    if more < less {
-        s.left + a.up * (less - more) <= s.right
-    } else {
-        s.left <= s.right + a.down * (more - less)
-    }
+    c.shape * bound + c.mean
 }
 
-// The end test by a bound of the sine, biased.
-fn by_bound(s: Sides, a: Span, bound: u64, upper: bool) -> bool
-    requires { ⌜ Fitting s a bound bound ⌝ }
-    ensures { λ r. ⌜ r ≡ boundTest upper s a bound ⌝ }
+// The test of one M and one A by a bound of the sine, biased.
+fn by_bound(c: Corner, bound: u64, upper: bool) -> bool
+    requires { ⌜ BoundIn c bound ⌝ }
+    ensures { λ r. ⌜ r ≡ testBy upper c bound ⌝ }
 {
     if upper {
-        fits(s, a, series::BIAS, bound)
+        against(c, bound) <= c.level
     } else {
-        fits(s, a, bound, series::BIAS)
+        c.level <= against(c, bound)
     }
 }
 
-// The bound that a test of an upper end goes by, or that of a lower end.
-fn bound_of(w: Walk, upper: bool) -> u64
-    ensures { λ r. ⌜ r ≡ cond upper (w .least) (w .greatest) ⌝ }
+// Whether both corners accept an end, at the depth that the walk has come to. Each end's test stands in its own arm, which is
+// faster than a choice of the bound.
+fn accepts(least: Corner, most: Corner, w: Walk, upper: bool) -> bool
+    requires { ⌜ WalkIn least w × WalkIn most w ⌝ }
+    ensures { λ r. ⌜ r ≡ (testBy upper least (ownBound upper w) && testBy upper most (ownBound upper w)) ⌝ }
 {
-    if upper { w.least } else { w.greatest }
+    if upper {
+        if by_bound(least, w.least, true) {
+            by_bound(most, w.least, true)
+        } else {
+            false
+        }
+    } else {
+        if by_bound(least, w.greatest, false) {
+            by_bound(most, w.greatest, false)
+        } else {
+            false
+        }
+    }
 }
 
-// The end test at a depth, settled at the first depth that settles it: one that accepts, or one whose other bound does not,
-// as no depth has a better bound than that.
-fn settle(p: Problem, x: Angle, upper: bool) -> bool
+// Whether the other bound of this depth fails the test of a corner: then so does every depth's own.
+fn hopeless(c: Corner, w: Walk, upper: bool) -> bool
+    requires { ⌜ WalkIn c w ⌝ }
+    ensures { λ r. ⌜ r ≡ not (testBy upper c (ownBound (not upper) w)) ⌝ }
+{
+    if upper {
+        !by_bound(c, w.greatest, true)
+    } else {
+        !by_bound(c, w.least, false)
+    }
+}
+
+// The end test of one M and a span of A, settled at the first depth that settles it.
+fn settle(m: u64, a: Span, depth: Depth, x: Angle, upper: bool) -> bool
+    requires { ⌜ Settling m a depth x ⌝ }
+    ensures { λ r. ⌜ r ≡ endAt upper (oneMean m a) (depth .pairs) (x .units) ⌝ }
+{
+    let pairs = depth.pairs as u64;
+    let angle = x.units;
+    let least = corner_at(m, a.down, angle);
+    let most = corner_at(m, a.up, angle);
+    let mut w = series::begin(angle, angle);
+    loop {
+        w = series::further(w);
+        if accepts(least, most, w, upper) {
+            return true;
+        }
+        if w.pairs == pairs {
+            return false;
+        }
+        if hopeless(least, w, upper) {
+            return false;
+        }
+    }
+}
+
+// The end test of a problem, of an upper end or of a lower one: by the greatest M, or the least.
+fn accepted(p: Problem, x: Angle, upper: bool) -> bool
     requires { ⌜ Asked p x ⌝ }
     ensures { λ r. ⌜ r ≡ endAt upper (p .cell) (p .depth .pairs) (x .units) ⌝ }
 {
-    let depth = p.depth.pairs as u64;
     let cell = p.cell;
+    let m = cell.m;
     let a = cell.a;
-    let s = sides_of(cell, x.units, upper);
-    let mut w = series::begin(x.units, x.units);
-    loop {
-        w = series::further(w);
-        if by_bound(s, a, bound_of(w, upper), upper) {
-            return true;
-        }
-        if w.pairs == depth {
-            return false;
-        }
-        if !by_bound(s, a, bound_of(w, !upper), upper) {
-            return false;
-        }
+    let depth = p.depth;
+    if upper {
+        settle(m.up, a, depth, x, true)
+    } else {
+        settle(m.down, a, depth, x, false)
     }
 }
 
@@ -99,7 +130,7 @@ pub fn lower(p: Problem, x: Angle) -> bool
     requires { ⌜ Asked p x ⌝ }
     ensures { λ r. ⌜ r ≡ lowerEnd (p .cell) (p .depth .pairs) (x .units) ⌝ }
 {
-    settle(p, x, false)
+    accepted(p, x, false)
 }
 
 // Whether x is an accepted upper end.
@@ -107,7 +138,7 @@ pub fn upper(p: Problem, x: Angle) -> bool
     requires { ⌜ Asked p x ⌝ }
     ensures { λ r. ⌜ r ≡ upperEnd (p .cell) (p .depth .pairs) (x .units) ⌝ }
 {
-    settle(p, x, true)
+    accepted(p, x, true)
 }
 
 // What a public end test answers: accepted is 1 or 0.
@@ -145,7 +176,7 @@ fn end_test(x: u32, m: u32, a: u32, depth: u32, upper: bool) -> End
     }
     let problem = posed.problem;
     let angle = made.angle;
-    flag(settle(problem, angle, upper))
+    flag(accepted(problem, angle, upper))
 }
 
 // Whether x is an accepted lower end, or the code of what is out of limits: 1, 2, 3, then 10.

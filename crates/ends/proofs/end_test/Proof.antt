@@ -61,8 +61,8 @@ returns c =
     let g = e .before .before .before .args in
     ends (g .upper) (g .x) (grid (g .m) (g .a)) (g .depth) .refused-by _ (code-is e) (c .if1 .taken) _ refl
 
-settle-requires : tie.Need-settle-requires
-settle-requires c κs = let e = c .before .before in record { problem = posed e .1; angle = angled e .1 }
+accepted-requires : tie.Need-accepted-requires
+accepted-requires c κs = let e = c .before .before in record { problem = posed e .1; angle = angled e .1 }
 
 flag-requires : tie.Need-flag-requires
 flag-requires c κs = search needs
@@ -72,9 +72,9 @@ returns-2 c =
     let t = c .before .before .before .before in
     let g = t .before .before .before .before .args in
     ends (g .upper) (g .x) (grid (g .m) (g .a)) (g .depth) .given-by _ (code-is (t .before)) (t .if1 .left) _
-    (c .flag .ensures ∙ ap flagged (c .before .settle .ensures ∙ ap₂ (λ (p : Problem) (x : Angle). endAt (g .upper) (p .cell) (p .depth .pairs) (x .units)) (posed t .0) (angled t .0)))
+    (c .flag .ensures ∙ ap flagged (c .before .accepted .ensures ∙ ap₂ (λ (p : Problem) (x : Angle). endAt (g .upper) (p .cell) (p .depth .pairs) (x .units)) (posed t .0) (angled t .0)))
 
 pub end-test-spec : {M : Type 1} → statement M
 end-test-spec =
     tie.close
-    (tie.spec new-requires new-requires-2 earlier-requires returns settle-requires flag-requires returns-2)
+    (tie.spec new-requires new-requires-2 earlier-requires returns accepted-requires flag-requires returns-2)

@@ -1,7 +1,7 @@
 -- `ends::settle` meets its contract: the walk goes on until a depth accepts, rules every depth out, or is the one asked for.
 -- Assumes nothing.
 use mathlib.Core.Path.{_≡_, sym, ap, ap₂, _∙_}
-use mathlib.Core.Bool.{Bool, not, cond}
+use mathlib.Core.Bool.{Bool, not, _&&_}
 use Prim.Native.Nat.{ℕ, suc, _-_, _≤_, _<_}
 use native.Mathlib.Omega.{arith}
 use borrow.Author.Needs.{needs}
@@ -11,128 +11,123 @@ use Rattle.grid.specs.Grid.{depths}
 use Rattle.series.specs.Sine.{sine}
 use Rattle.series.specs.Walk.{walk}
 use Rattle.series.specs.declared.Walk.{Walk}
-use Rattle.series.proofs.CodeWalk.{begins, unfinished, onward, own-pairs, walked-own}
+use Rattle.series.proofs.CodeWalk.{begins, unfinished, onward, own-pairs}
 use Rattle.ends.specs.Ends.{endAt}
-use Rattle.ends.specs.Sides.{Fitting, boundTest}
-use Rattle.ends.specs.declared.Sides.{Sides}
+use Rattle.ends.specs.Corner.{oneMean, testBy, ownBound, WalkIn}
+use Rattle.ends.specs.declared.Corner.{Corner}
 use Rattle.ends.proofs.Corners.{deeper}
-use Rattle.ends.proofs.CodeTest.{bound-fits, own-test, other-test}
+use Rattle.ends.proofs.CodeTest.{walk-in, own-test, other-test}
 use Rattle.ends.proofs.settle.Statement.{statement}
 use Rattle.ends.proofs.settle.Tie as tie
 
 abbrev Inv-loop : tie.InvT-loop
-Inv-loop upper depth a s w₀ w = (w ≡ walk sine (w₀ .angle) (w .pairs)) × (w .pairs < depth)
+Inv-loop m upper pairs angle least most w₀ w = (w ≡ walk sine angle (w .pairs)) × (w .pairs < pairs)
 
 abbrev μ-loop : tie.MeasureT-loop
-μ-loop upper depth a s w₀ w = depth - w .pairs
+μ-loop m upper pairs angle least most w₀ w = pairs - w .pairs
 
--- the walk begins at the angle asked for, as sine's
-started : (c : tie.After-begin Inv-loop μ-loop) → c .begin .result ≡ walk sine (c .before .before .before .before .before .args .x .units) 0
-started c = c .begin .ensures ∙ begins sine _
-
-x-is : (c : tie.After-begin Inv-loop μ-loop) → c .begin .result .angle ≡ c .before .before .before .before .before .args .x .units
-x-is c = ap (λ (t : Walk). t .angle) (started c)
-
--- after a turn's step it has come one pair further
-stepped : (c : tie.After-further Inv-loop μ-loop)
-    → c .further .result ≡ walk sine (c .before .before .begin .result .angle) (suc (c .before .loop .w .pairs))
-stepped c = onward _ _ _ (c .before .loop .inv .0) _ (c .further .ensures)
-
+-- after a turn's step the walk has come one pair further
 next : (c : tie.After-further Inv-loop μ-loop)
-    → c .further .result ≡ walk sine (c .before .before .before .before .before .before .before .args .x .units) (suc (c .before .loop .w .pairs))
-next c = stepped c ∙ ap (λ (x : ℕ). walk sine x (suc (c .before .loop .w .pairs))) (x-is (c .before .before))
+    → c .further .result ≡ walk sine (c .before .before .before .before .before .before .args .x .units) (suc (c .before .loop .w .pairs))
+next c = onward _ _ _ (c .before .loop .inv .0) _ (c .further .ensures)
 
 pairs-is : (c : tie.After-further Inv-loop μ-loop) → c .further .result .pairs ≡ suc (c .before .loop .w .pairs)
 pairs-is c = ap (λ (t : Walk). t .pairs) (next c)
 
 few : (c : tie.After-further Inv-loop μ-loop) → suc (c .before .loop .w .pairs) ≤ depths
-few c = omega (arith, c .before .loop .inv .1, c .before .before .before .before .before .before .before .pre .problem .depth .few)
+few c = omega (arith, c .before .loop .inv .1, c .before .before .before .before .before .before .pre .depth .few)
 
--- either test of the loop may be made
-fitting : (c : tie.After-further Inv-loop μ-loop) (upper : Bool) (b : ℕ) → b ≡ cond upper (c .further .result .least) (c .further .result .greatest)
-    → Fitting (c .before .before .before .sides-of .result) (c .before .before .before .before .before .before .before .args .p .cell .a) b b
-fitting c upper b e =
-    let s = c .before .before .before .before .before .before .before in
-    rw e
-    (bound-fits (s .args .p .cell) (s .pre .problem .cell) _ (s .pre .angle .top) (c .further .result) _ (next c) (few c) upper (s .args .upper) _
-    (c .before .before .before .sides-of .ensures))
+-- the tests of both corners may be made
+corners-in : (c : tie.After-further Inv-loop μ-loop)
+    → WalkIn (c .before .before .before .before .corner-at .result) (c .further .result) × WalkIn (c .before .before .before .corner-at2 .result) (c .further .result)
+corners-in c =
+    let s = c .before .before .before .before .before .before in
+    let p = s .pre in
+    let l = p .cell .shapes in
+    let h = p .cell .shape in
+    let may = walk-in (s .args .x .units) (p .angle .top) (c .further .result) _ (next c) (few c) (s .args .m) in
+    (rw (c .before .before .before .before .corner-at .ensures) (may _ (p .cell .mean) (omega arith)), rw (c .before .before .before .corner-at2 .ensures) (may _ (p .cell .mean) h))
 
 -- what the first test says
-own : (c : tie.After-by-bound Inv-loop μ-loop)
-    → let f = c .before .before in
-    let g = f .before .before .before .before .before .before .before .args in
-    c .by-bound .result ≡ endAt (g .upper) (g .p .cell) (f .further .result .pairs) (g .x .units)
+own : (c : tie.After-accepts Inv-loop μ-loop)
+    → let f = c .before in
+    let g = f .before .before .before .before .before .before .args in
+    c .accepts .result ≡ endAt (g .upper) (oneMean (g .m) (g .a)) (f .further .result .pairs) (g .x .units)
 own c =
-    let f = c .before .before in
-    let s = f .before .before .before .before .before .before .before in
-    c .by-bound .ensures
-    ∙ ap₂ (λ (t : Sides) (b : ℕ). boundTest (s .args .upper) t (s .args .p .cell .a) b) (f .before .before .before .sides-of .ensures) (c .before .bound-of .ensures)
-    ∙ own-test (s .args .p .cell) (s .pre .problem .cell) _ (s .pre .angle .top) (f .further .result) _ (next f) (few f) (s .args .upper)
-    ∙ ap (λ (n : ℕ). endAt (s .args .upper) (s .args .p .cell) n (s .args .x .units)) (sym (pairs-is f))
+    let f = c .before in
+    let s = f .before .before .before .before .before .before in
+    let g = s .args in
+    let b = ownBound (g .upper) (f .further .result) in
+    c .accepts .ensures
+    ∙ ap₂ (λ (p q : Corner). testBy (g .upper) p b && testBy (g .upper) q b) (f .before .before .before .before .corner-at .ensures) (f .before .before .before .corner-at2 .ensures)
+    ∙ own-test (g .x .units) (s .pre .angle .top) (f .further .result) _ (next f) (few f) (g .m) (g .a) (g .upper)
+    ∙ ap (λ (n : ℕ). endAt (g .upper) (oneMean (g .m) (g .a)) n (g .x .units)) (sym (pairs-is f))
 
-cast-depth : tie.Need-cast-depth Inv-loop μ-loop
-cast-depth c = search needs
+cast-pairs : tie.Need-cast-pairs Inv-loop μ-loop
+cast-pairs c = search needs
 
-sides-of-requires : tie.Need-sides-of-requires Inv-loop μ-loop
-sides-of-requires c κs = let p = c .before .before .before .pre in record { cell = p .problem .cell; angle = p .angle .top }
+corner-at-requires : tie.Need-corner-at-requires Inv-loop μ-loop
+corner-at-requires c κs =
+    let p = c .before .pre in
+    let l = p .cell .shapes in
+    let h = p .cell .shape in
+    record { mean = p .cell .mean; shape = omega arith; angle = p .angle .top }
+
+corner-at-requires-2 : tie.Need-corner-at-requires-2 Inv-loop μ-loop
+corner-at-requires-2 c κs =
+    let p = c .before .before .pre in record { mean = p .cell .mean; shape = p .cell .shape; angle = p .angle .top }
 
 begin-requires : tie.Need-begin-requires Inv-loop μ-loop
-begin-requires c κs = let h = c .before .before .before .before .pre .angle .top in (h, omega arith)
+begin-requires c κs = let h = c .before .before .before .pre .angle .top in (h, omega arith)
 
 loop-holds : tie.Need-loop-holds Inv-loop μ-loop
 loop-holds c =
-    let f = ap (λ (t : Walk). t .pairs) (started c) in
-    (walked-own _ _ _ (started c), omega (arith, c .before .before .before .before .before .pre .problem .depth .some))
+    let e = c .begin .ensures ∙ begins sine _ in
+    let f = ap (λ (t : Walk). t .pairs) e in
+    (own-pairs _ _ _ e, omega (arith, c .before .before .before .before .pre .depth .some))
 
 further-requires : tie.Need-further-requires Inv-loop μ-loop
 further-requires c κs =
-    let p = c .before .before .before .before .before .before .pre in
-    let e = x-is (c .before) in
-    unfinished _ _ _ (c .loop .inv .0) (omega (arith, p .angle .top)) (omega (arith, p .problem .depth .few))
+    let p = c .before .before .before .before .before .pre in unfinished _ _ _ (c .loop .inv .0) (p .angle .top) (omega (arith, c .loop .inv .1, p .depth .few))
 
-bound-of-requires : tie.Need-bound-of-requires Inv-loop μ-loop
-bound-of-requires c κs = search needs
-
-by-bound-requires : tie.Need-by-bound-requires Inv-loop μ-loop
-by-bound-requires c κs = fitting (c .before) (c .before .before .before .before .before .before .before .before .args .upper) _ (c .bound-of .ensures)
+accepts-requires : tie.Need-accepts-requires Inv-loop μ-loop
+accepts-requires c κs = corners-in c
 
 returns : tie.Need-returns Inv-loop μ-loop
 returns c =
-    let f = c .before .before .before in
-    let g = f .before .before .before .before .before .before .before .args in
+    let f = c .before .before in
+    let g = f .before .before .before .before .before .before .args in
     let k = pairs-is f in
-    passes _ (deeper (g .upper) (g .p .cell) (g .x .units) (omega (arith, f .before .loop .inv .1)) (passed _ (sym (c .if1 .taken) ∙ own (c .before))))
+    passes _
+    (deeper (g .upper) (oneMean (g .m) (g .a)) (g .x .units) (omega (arith, f .before .loop .inv .1))
+    (passed _ (sym (c .if1 .taken) ∙ own (c .before))))
 
 returns-2 : tie.Need-returns-2 Inv-loop μ-loop
 returns-2 c =
     let e = c .before .before in
-    let g = e .before .before .before .before .before .before .before .before .before .before .args in
-    sym (e .if1 .left) ∙ own (e .before) ∙ ap (λ (n : ℕ). endAt (g .upper) (g .p .cell) n (g .x .units)) (c .if2 .taken)
+    let g = e .before .before .before .before .before .before .before .before .args in
+    sym (e .if1 .left) ∙ own (e .before) ∙ ap (λ (n : ℕ). endAt (g .upper) (oneMean (g .m) (g .a)) n (g .x .units)) (c .if2 .taken)
 
-bound-of-requires-2 : tie.Need-bound-of-requires-2 Inv-loop μ-loop
-bound-of-requires-2 c κs = search needs
-
-by-bound-requires-2 : tie.Need-by-bound-requires-2 Inv-loop μ-loop
-by-bound-requires-2 c κs = let f = c .before .before .before .before .before .before in fitting f (not (f .before .before .before .before .before .before .before .args .upper)) _ (c .bound-of2 .ensures)
+hopeless-requires : tie.Need-hopeless-requires Inv-loop μ-loop
+hopeless-requires c κs = corners-in (c .before .before .before .before) .0
 
 returns-3 : tie.Need-returns-3 Inv-loop μ-loop
 returns-3 c =
-    let t = c .before in
-    let f = t .before .before .before .before .before .before .before in
-    let s = f .before .before .before .before .before .before .before in
-    let e =
-    ap₂ (λ (t : Sides) (b : ℕ). boundTest (s .args .upper) t (s .args .p .cell .a) b) (f .before .before .before .sides-of .ensures) (t .before .bound-of2 .ensures) in
-    other-test (s .args .p .cell) (s .pre .problem .cell) _ (s .pre .angle .top) (f .further .result) _ (next f) (few f) (s .args .upper)
-    (sym e ∙ sym (t .by-bound2 .ensures) ∙ not-true _ (c .if3 .taken)) (s .args .p .depth .pairs) (s .pre .problem .depth .few)
+    let f = c .before .before .before .before .before .before in
+    let s = f .before .before .before .before .before .before in
+    let g = s .args in
+    let e = ap (λ (p : Corner). not (testBy (g .upper) p (ownBound (not (g .upper)) (f .further .result)))) (f .before .before .before .before .corner-at .ensures) in
+    other-test (g .x .units) (s .pre .angle .top) (f .further .result) _ (next f) (few f) (g .m) (g .a) (g .upper)
+    (not-true _ (sym (c .before .hopeless .ensures ∙ e) ∙ c .if3 .taken)) (g .depth .pairs) (s .pre .depth .few)
 
 loop-less : tie.Need-loop-less Inv-loop μ-loop
-loop-less c = let k = pairs-is (c .before .before .before .before .before .before .before .before) in omega arith
+loop-less c = let f = c .before .before .before .before .before .before in let k = pairs-is f in omega (arith, f .before .loop .inv .1)
 
 loop-again : tie.Need-loop-again Inv-loop μ-loop
 loop-again c =
-    let f = c .before .before .before .before .before .before .before .before in
+    let f = c .before .before .before .before .before .before in
     let k = pairs-is f in
-    (own-pairs _ _ _ (stepped f), omega (arith, f .before .loop .inv .1, c .before .before .before .if2 .left))
+    (own-pairs _ _ _ (next f), omega (arith, f .before .loop .inv .1, c .before .before .if2 .left))
 
 pub settle-spec : {M : Type 1} → statement M
 settle-spec =
@@ -140,17 +135,16 @@ settle-spec =
     (tie.spec
     Inv-loop
     μ-loop
-    cast-depth
-    sides-of-requires
+    cast-pairs
+    corner-at-requires
+    corner-at-requires-2
     begin-requires
     loop-holds
     further-requires
-    bound-of-requires
-    by-bound-requires
+    accepts-requires
     returns
     returns-2
-    bound-of-requires-2
-    by-bound-requires-2
+    hopeless-requires
     returns-3
     loop-less
     loop-again)
