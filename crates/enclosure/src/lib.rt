@@ -71,19 +71,19 @@ fn enclose_problem(problem: Problem) -> Enclosure
     if !ends::upper(problem, Angle { units: grid::T }) {
         return refused(codes::NO_UPPER_END);
     }
-    let below = last_bracket(problem, false);
+    let lower = last_bracket(problem, false);
     if ends::upper(problem, Angle { units: 0 }) {
         return Enclosure {
             code: codes::DONE,
-            a: below.p,
+            a: lower.p,
             b: 0,
         };
     }
-    let above = last_bracket(problem, true);
+    let upper = last_bracket(problem, true);
     Enclosure {
         code: codes::DONE,
-        a: below.p,
-        b: above.q,
+        a: lower.p,
+        b: upper.q,
     }
 }
 

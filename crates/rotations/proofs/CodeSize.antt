@@ -44,15 +44,15 @@ size-sign false z = size-neg z
 -- a quotient that is rounded down
 pub record Shrunk (m L : ℕ) (q : ℤ) : Type 0 where
   pub part : natAbs q ≤ L / m + 1
-  pub whole : natAbs q ≤ L
+  pub full : natAbs q ≤ L
 
 pub shrunk : (k L : ℕ) (z : ℤ) → natAbs z ≤ L → Shrunk (2 ^ k) L (shifted k z)
 unfolding shifted
 shrunk k L (pos n) h =
-    let d = down-mono (2 ^ k) (pow-pos k) h in record { part = omega arith; whole = omega (arith, div-le-self n (2 ^ k)) }
+    let d = down-mono (2 ^ k) (pow-pos k) h in record { part = omega arith; full = omega (arith, div-le-self n (2 ^ k)) }
 shrunk k L (negsuc n) h =
     let d = down-mono {a = n} {c = L} (2 ^ k) (pow-pos k) (omega arith) in
-    record { part = omega arith; whole = omega (arith, div-le-self n (2 ^ k)) }
+    record { part = omega arith; full = omega (arith, div-le-self n (2 ^ k)) }
 
 -- no entry is above one radian, which bounds E
 pub entry-small : (k : ℕ) → k < entries → entry k ≤ one
@@ -69,7 +69,7 @@ pub roomy-sign : (plus : Bool) {z : ℤ} → Roomy z → Roomy (signedBy plus z)
 roomy-sign plus {z} h = record { size = let a = h .size in omega (arith, size-sign plus z) }
 
 pub roomy-shift : (k : ℕ) {z : ℤ} → Roomy z → Roomy (shifted k z)
-roomy-shift k {z} h = record { size = shrunk k room z (h .size) .whole }
+roomy-shift k {z} h = record { size = shrunk k room z (h .size) .full }
 
 -- a difference is the sum with the opposite sign
 pub roomy-neg : {z : ℤ} → Roomy z → Roomy (negℤ z)

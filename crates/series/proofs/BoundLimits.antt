@@ -12,8 +12,8 @@ use Rattle.series.proofs.TermLimits.{evens-limit, odds-limit}
 
 -- z is at most n, and at least -n
 pub record Bounded (n : ℕ) (z : ℤ) : Type 0 where
-  pub above : plus z ≤ n
-  pub below : minus z ≤ n
+  pub high : plus z ≤ n
+  pub low : minus z ≤ n
 
 sub-within : (a b n : ℕ) → a ≤ n → b ≤ n → Bounded n (subℕ a b)
 sub-within a b n h k =

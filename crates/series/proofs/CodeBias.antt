@@ -31,7 +31,7 @@ biased-step p q i j h k =
 -- a biased number is 2^34 plus the number
 pub biased-parts : (z : ℤ) → InBounds z → biased z + minus z ≡ bias + plus z
 biased-parts (pos n) w = omega arith
-biased-parts (negsuc n) w = let h = w .below in omega arith
+biased-parts (negsuc n) w = let h = w .low in omega arith
 
 biased-le : (y z : ℤ) → InBounds y → InBounds z → y ≤ℤ z → biased y ≤ biased z
 biased-le y z v w h =
@@ -45,7 +45,7 @@ unbiased-is z w =
     one-number (is-sub (biased z) bias) (record { eq = omega arith })
 
 pub biased-small : (z : ℤ) → InBounds z → biased z ≤ 2 * bias
-biased-small z w = let p = biased-parts z w in let h = w .above in omega arith
+biased-small z w = let p = biased-parts z w in let h = w .high in omega arith
 
 -- what the greater is biased to is the greater of what both are biased to, and likewise the lesser
 pub biased-greater : (y z : ℤ) → InBounds y → InBounds z → max (biased y) (biased z) ≡ biased (greater y z)

@@ -25,7 +25,7 @@ l-zero : (k : ℕ) → l sine 0 k ≤ 0
 l-zero k = le-trans (l-le-u sine sine-divides 0 k) (u-zero k)
 
 none : (n : ℕ) (z : ℤ) → Bounded (n * 0) z → z ≡ pos 0
-none n z w = let h = w .above in let k = w .below in one-number (shift (own z) (omega arith)) (is-pos 0)
+none n z w = let h = w .high in let k = w .low in one-number (shift (own z) (omega arith)) (is-pos 0)
 
 -- R57: 0 and 0 at any depth
 pub Lo-zero : (d : ℕ) → Lo 0 d ≡ pos 0
