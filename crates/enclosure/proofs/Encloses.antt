@@ -50,7 +50,7 @@ code-zero g d z =
     record {
       problem = problem-in g d p;
       top = is-accepted (upperEnd (cellOf g) d T-units) (q .0);
-      ends = enclosures g d .value-is (enclosureRule g d) refl z;
+      ends = enclosures g d .says (enclosureRule g d) refl .made z;
     }
 
 three-codes : (g : Given) (d : ℕ) → T (all (λ (c : Check). not (eqb (number (c .code)) 6)) (problemChecks g d))

@@ -10,7 +10,7 @@ use borrow.Author.Tests.{ne-eqb, eqb-true, eqb-false}
 use lib.Dec.{T, T-not, ltb, eqb, ltb→lt}
 use lib.Ieee.Fits.{eq→eqb}
 use Rattle.whole.proofs.Bools.{both-parts}
-use Rattle.grid.specs.Codes.{Code, Check, number, done, limit-check, firstCode, earlier, checked, Passed}
+use Rattle.grid.specs.Codes.{Code, Check, number, done, firstCode, earlier, checked, Passed}
 use Rattle.grid.specs.Refuses.{FirstFails, all}
 
 -- no code of a check is 0
@@ -20,14 +20,6 @@ coded cs = all (λ (c : Check). ltb 0 (number (c .code))) cs
 -- n is the code of a call with these checks
 abbrev pub CodeOf : List Check → ℕ → Type 0
 CodeOf cs n = n ≡ number (firstCode cs)
-
-of-one : (t : Bool) (k : Code) → cond t (number k) 0 ≡ number (cond t k done)
-of-one true k = refl
-of-one false k = refl
-
--- the code of a number's limit
-pub limit-code : (n limit : ℕ) (k : Code) (code : ℕ) → code ≡ cond (ltb limit n) (number k) 0 → CodeOf (limit-check n limit k ∷ []) code
-limit-code n limit k code e = e ∙ of-one (ltb limit n) k
 
 -- where all checks pass, any answer that begins with them goes on
 pub goes : {A : Type 0} (cs : List Check) → Passed cs → (refused : ℕ → A) (given : A) → checked cs refused given ≡ given

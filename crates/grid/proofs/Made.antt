@@ -1,11 +1,11 @@
 -- What the checked constructors answer: their codes, and with code 0 the value that was given. Assumes nothing.
-use mathlib.Core.Path.{_≡_, refl, sym, ap, subst}
+use mathlib.Core.Path.{refl}
 use mathlib.Core.List.{[], _∷_}
 use Prim.Native.Nat.{ℕ}
-use Rattle.grid.specs.Codes.{bad-x, x-check, a-check, depth-check}
+use Rattle.grid.specs.Codes.{bad-x, Passed, x-check, a-check, depth-check}
 use Rattle.grid.specs.Grid.{T-units}
 use Rattle.grid.specs.Limits.{AngleIn}
-use Rattle.grid.specs.Make.{angleWith, codedAngle, eccentricityWith, depthWith}
+use Rattle.grid.specs.Make.{angleWith, eccentricityWith, depthWith}
 use Rattle.grid.specs.declared.CodedAngle.{CodedAngle}
 use Rattle.grid.specs.declared.CodedEccentricity.{CodedEccentricity}
 use Rattle.grid.specs.declared.CodedDepth.{CodedDepth}
@@ -22,9 +22,6 @@ eccentricities a = makes refl (λ k. refl) tt
 pub depths-made : (d : ℕ) → Makes (depth-check d ∷ []) (λ (r : CodedDepth). r .code) (λ k. depthWith k 0) (depthWith 0 d)
 depths-made d = makes refl (λ k. refl) tt
 
--- with code 0 a made angle is the one given, within its limit
-pub angle-made : (x : ℕ) (r : CodedAngle) → r ≡ codedAngle x → r .code ≡ 0 → (r .angle ≡ record { units = x }) × AngleIn (r .angle)
-angle-made x r e z =
-    let v = ap (λ (t : CodedAngle). t .angle) (angles x .value-is r e z) in
-    let p = angles x .passed-by _ (angles x .code-is r e) z in
-    (v, subst AngleIn (sym v) (record { top = limit-fits x T-units bad-x (p .0) }))
+-- an angle whose check passed is within its limit
+pub angle-in : (x : ℕ) → Passed (x-check x ∷ []) → AngleIn (record { units = x })
+angle-in x p = record { top = limit-fits x T-units bad-x (p .0) }

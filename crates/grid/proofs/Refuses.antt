@@ -1,15 +1,15 @@
 -- An answer that begins with checks refuses as the first demand asks, whatever the entry. Assumes nothing.
 use mathlib.Core.Path.{_≡_, refl, sym, ap, ap₂, _∙_}
 use mathlib.Core.Bool.{Bool, true, false, cond, true≢false}
-use mathlib.Core.List.{List, [], _∷_}
+use mathlib.Core.List.{List, [], _∷_, _++_}
 use mathlib.Core.Logic.{_⊎_, inl, inr, _↔_}
 use Prim.Native.Nat.{ℕ, _<_}
 use native.Mathlib.Omega.{arith}
 use lib.Dec.{T, ltb, ltb→lt}
 use Rattle.whole.proofs.Bools.{both-parts}
-use Rattle.grid.specs.Codes.{Code, Check, number, firstCode, checked, Passed}
+use Rattle.grid.specs.Codes.{Code, Check, number, limit-check, firstCode, earlier, checked, Passed}
 use Rattle.grid.specs.Refuses.{FirstFails, Refuses}
-use Rattle.grid.proofs.FirstCode.{coded, CodeOf, goes, stops, passed}
+use Rattle.grid.proofs.FirstCode.{coded, CodeOf, goes, stops, passed, in-turn, neither-code}
 
 module _ {A : Type 0} (code : A → ℕ) (zeros : ℕ → A) where
   -- one check more: it fails, or the rest answers
@@ -73,16 +73,20 @@ module _ {A : Type 0} (code : A → ℕ) (zeros : ℕ → A) (given : A) (zero :
         others = others-step code zeros n o r (c .fails) (h .others);
       }
 
--- An answer by checks whose refusals keep the code they are given: it refuses as the first demand asks, its code is that of
+-- n is the code of these checks, and where it is 0 a value is known
+pub record Says (cs : List Check) (n : ℕ) (Known : Type 0) : Type 0 where
+  pub code-is : CodeOf cs n
+  pub made : n ≡ 0 → Known
+
+-- An answer by checks whose refusals keep the code they are given: it refuses as the first demand asks; its code is that of
 -- its checks, and with code 0 it is what is given.
 pub record Makes {A : Type 0} (cs : List Check) (code : A → ℕ) (zeros : ℕ → A) (given : A) : Type 0 where
   pub demand : Refuses cs code zeros (checked cs zeros given)
-  pub code-is : (r : A) → r ≡ checked cs zeros given → CodeOf cs (code r)
-  pub value-is : (r : A) → r ≡ checked cs zeros given → code r ≡ 0 → r ≡ given
+  pub says : (r : A) → r ≡ checked cs zeros given → Says cs (code r) (r ≡ given)
   -- of a code that the checks have: with 0 they all passed, and what is given is answered; else the refusal is
-  pub passed-by : (n : ℕ) → CodeOf cs n → n ≡ 0 → Passed cs
-  pub given-by : (n : ℕ) → CodeOf cs n → n ≡ 0 → (r : A) → r ≡ given → r ≡ checked cs zeros given
-  pub refused-by : (n : ℕ) → CodeOf cs n → (n ≡ 0 → ⊥) → (r : A) → r ≡ zeros n → r ≡ checked cs zeros given
+  pub passed-by : {n : ℕ} → CodeOf cs n → n ≡ 0 → Passed cs
+  pub given-by : {n : ℕ} → CodeOf cs n → n ≡ 0 → (r : A) → r ≡ given → r ≡ checked cs zeros given
+  pub refused-by : {n : ℕ} → CodeOf cs n → (n ≡ 0 → ⊥) → (r : A) → r ≡ zeros n → r ≡ checked cs zeros given
 
 pub makes : {A : Type 0} {cs : List Check} {code : A → ℕ} {zeros : ℕ → A} {given : A}
     → code given ≡ 0 → ((k : ℕ) → code (zeros k) ≡ k) → T (coded cs) → Makes cs code zeros given
@@ -90,16 +94,33 @@ makes {A} {cs} {code} {zeros} {given} zero keeps t =
     let h = refuses code zeros given zero cs (own cs) t in
     record {
       demand = h;
-      code-is = λ r e. ap code e ∙ h .named;
-      value-is = λ r e z. e ∙ goes cs (passed cs t (code r) (ap code e ∙ h .named) z) zeros given;
-      passed-by = passed cs t;
-      given-by = λ n c z r e. e ∙ sym (goes cs (passed cs t n c z) zeros given);
-      refused-by = λ n c some r e. e ∙ sym (stops cs n c some zeros given);
+      says = λ r e.
+          record {
+            code-is = ap code e ∙ h .named;
+            made = λ z. e ∙ goes cs (passed cs t (code r) (ap code e ∙ h .named) z) zeros given;
+          };
+      passed-by = λ {n} c z. passed cs t n c z;
+      given-by = λ {n} c z r e. e ∙ sym (goes cs (passed cs t n c z) zeros given);
+      refused-by = λ {n} c some r e. e ∙ sym (stops cs n c some zeros given);
     }
   where
     own : (ds : List Check) → Own code zeros ds
     own [] = tt
     own (c ∷ ds) = (keeps (number (c .code)), own ds)
+
+-- the code of a number's limit
+pub limits : (n limit : ℕ) (k : Code) → T (coded (limit-check n limit k ∷ []))
+    → Makes (limit-check n limit k ∷ []) (λ (r : ℕ). r) (λ r. r) 0
+limits n limit k t = makes refl (λ r. refl) t
+
+-- checks one after the other
+pub then : {cs ds : List Check} {j k : ℕ} {Left Right : Type 0} → T (coded cs) → Says cs j Left → Says ds k Right
+    → (n : ℕ) → n ≡ earlier j k → Says (cs ++ ds) n (Left × Right)
+then {cs} {ds} {j} {k} t s r n e =
+    record {
+      code-is = e ∙ in-turn cs ds t j k (s .code-is) (r .code-is);
+      made = λ z. let w = neither-code j k (sym e ∙ z) in (s .made (w .0), r .made (w .1));
+    }
 
 -- a function of an answer is an answer with that function of each refusal, and of what is given
 pub through : {A B : Type 0} (f : A → B) (zeros : ℕ → A) (given : A) (cs : List Check)

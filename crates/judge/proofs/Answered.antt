@@ -45,7 +45,7 @@ module _ (k : Claim) where
   -- what is answered where every check passes
   pub answered : Passed (claimChecks k) → judgeRule k ≡ verdict (caseVerdict (caseAt k))
   unfolding judgeRule
-  answered p = claims .value-is (judgeRule k) refl (claims .demand .passed .1 p)
+  answered p = claims .says (judgeRule k) refl .made (claims .demand .passed .1 p)
 
   -- an answer that gives a verdict: every check passed
   pub judged-passed : (v : Verdict) → judgeRule k ≡ verdict v → Passed (claimChecks k)

@@ -1,6 +1,6 @@
 -- What the checked constructors of a cell and of a problem answer: their codes, and with code 0 what was given, within its
 -- limits. Assumes nothing.
-use mathlib.Core.Path.{_≡_, refl, sym, ap, subst}
+use mathlib.Core.Path.{refl}
 use mathlib.Core.List.{[], _∷_}
 use Prim.Native.Nat.{ℕ}
 use native.Mathlib.Omega.{arith}
@@ -11,7 +11,7 @@ use Rattle.grid.proofs.FirstCode.{coded, split}
 use Rattle.grid.proofs.Refuses.{Makes, makes}
 use Rattle.grid.proofs.Fits.{limit-fits, depth-fits}
 use Rattle.orbit.specs.Cell.{gridCell, CellIn}
-use Rattle.orbit.specs.Given.{Given, grid, checksOf, cellOf, cellWith, codedCell, problemChecks, problemAt, problemWith, codedProblem, ProblemIn}
+use Rattle.orbit.specs.Given.{Given, grid, checksOf, cellOf, cellWith, problemChecks, problemAt, problemWith, ProblemIn}
 use Rattle.orbit.specs.declared.CodedCell.{CodedCell}
 use Rattle.orbit.specs.declared.CodedProblem.{CodedProblem}
 
@@ -40,17 +40,3 @@ pub problem-in : (g : Given) (d : ℕ) → Passed (problemChecks g d) → Proble
 problem-in g d p =
     let (cell, depth) = split (checksOf g) (depth-check d ∷ []) p in
     record { cell = cell-in g cell; depth = depth-fits d (depth .0) }
-
--- with code 0 what was made is what was given, within its limits
-pub cell-made : (g : Given) (r : CodedCell) → r ≡ codedCell g → r .code ≡ 0 → (r .cell ≡ cellOf g) × CellIn (r .cell)
-cell-made g r e z =
-    let m = cells g in
-    let v = ap (λ (t : CodedCell). t .cell) (m .value-is r e z) in
-    (v, subst CellIn (sym v) (cell-in g (m .passed-by _ (m .code-is r e) z)))
-
-pub problem-made : (g : Given) (d : ℕ) (r : CodedProblem) → r ≡ codedProblem g d → r .code ≡ 0
-    → (r .problem ≡ problemAt (cellOf g) d) × ProblemIn (r .problem)
-problem-made g d r e z =
-    let m = problems g d in
-    let v = ap (λ (t : CodedProblem). t .problem) (m .value-is r e z) in
-    (v, subst ProblemIn (sym v) (problem-in g d (m .passed-by _ (m .code-is r e) z)))

@@ -39,7 +39,7 @@ module _ (upper : Bool) (x : ℕ) (g : Given) (d : ℕ) where
   answered : Passed (problemChecks g d) → x ≤ T-units → endRule upper x g d ≡ flagged (endAt upper (cellOf g) d x)
   answered p h =
       let m = ends upper x g d in
-      m .value-is _ refl (m .demand .passed .1 (join (problemChecks g d) (x-check x ∷ []) p (le-ltb T-units x h, tt)))
+      m .says _ refl .made (m .demand .passed .1 (join (problemChecks g d) (x-check x ∷ []) p (le-ltb T-units x h, tt)))
 
   known : (t : Bool) → endRule upper x g d ≡ flagged t → Posed x g d × (endAt upper (cellOf g) d x ≡ t)
   known t e =

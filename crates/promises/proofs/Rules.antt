@@ -29,13 +29,13 @@ pub rules : Rules
 unfolding sineRule proposalRule judgeRule batchRule answerAt
 rules =
     record {
-      sine = λ x d. sines x d .value-is _ refl;
-      lower-end = λ x g d. ends false x g d .value-is _ refl;
-      upper-end = λ x g d. ends true x g d .value-is _ refl;
-      enclose = λ g d. enclosures g d .value-is _ refl;
-      propose = λ g. proposals g .value-is _ refl;
-      judge = λ c. judge.claims c .value-is _ refl;
-      count = λ claims answers. batches twenty (length claims) (length answers) .value-is _ refl;
+      sine = λ x d. sines x d .says _ refl .made;
+      lower-end = λ x g d. ends false x g d .says _ refl .made;
+      upper-end = λ x g d. ends true x g d .says _ refl .made;
+      enclose = λ g d. enclosures g d .says _ refl .made;
+      propose = λ g. proposals g .says _ refl .made;
+      judge = λ c. judge.claims c .says _ refl .made;
+      count = λ claims answers. batches twenty (length claims) (length answers) .says _ refl .made;
       written = byte-answered twenty;
       byte = λ claims i e.
           goes (recordChecks twenty claims i) (demand-1 .byte claims i .passed .0 e) (λ (k : ℕ). k)
@@ -43,10 +43,10 @@ rules =
       one-of-eight = one-of-eight twenty refl;
       beyond = byte-kept twenty;
       room = length-kept twenty;
-      angle = λ x. angles x .value-is _ refl;
-      eccentricity = λ a. eccentricities a .value-is _ refl;
-      depth = λ d. depths-made d .value-is _ refl;
-      cell = λ g. cells g .value-is _ refl;
-      problem = λ g d. problems g d .value-is _ refl;
-      estimate = λ x. estimates x .value-is _ refl;
+      angle = λ x. angles x .says _ refl .made;
+      eccentricity = λ a. eccentricities a .says _ refl .made;
+      depth = λ d. depths-made d .says _ refl .made;
+      cell = λ g. cells g .says _ refl .made;
+      problem = λ g d. problems g d .says _ refl .made;
+      estimate = λ x. estimates x .says _ refl .made;
     }

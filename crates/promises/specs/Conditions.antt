@@ -22,8 +22,8 @@ use Rattle.claims.specs.Batch.{length-check, answers-check}
 abbrev pub OffRange : Float → Type 0
 OffRange nan = Unit {0}
 OffRange (inf s) = Unit {0}
-OffRange (fin s m e) =
-    ((s ≡ true) × (0 < m)) ⊎ (T-units * den (fin s m e) < product (fin s m e))
+OffRange (fin s m exp) =
+    ((s ≡ true) × (0 < m)) ⊎ (T-units * den (fin s m exp) < product (fin s m exp))
 
 abbrev pub Exactly : Check → Type 0 → Type 0
 Exactly c condition = c .fails ≡ true ↔ condition

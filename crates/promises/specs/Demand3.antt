@@ -31,29 +31,29 @@ pub record Within (inner outer : Enclosure) : Type 0 where
 abbrev pub Settled : Verdict → Type 0
 Settled v = (v ≡ Confirmed) ⊎ (v ≡ Refuted)
 
--- record j of some claims is record i of others at depth e
-pub record Again (claims : List ℕ) (i : ℕ) (others : List ℕ) (j e : ℕ) : Type 0 where
-  pub claim : claimAt twenty others j ≡ atDepth (claimAt twenty claims i) e
-  pub reserved : reserved-check twenty others (j * twenty .width) .fails ≡ false
+-- record k of the others is record i of the claims at another depth
+pub record Again (claims : List ℕ) (i : ℕ) (others : List ℕ) (k other : ℕ) : Type 0 where
+  pub claim : claimAt twenty others k ≡ atDepth (claimAt twenty claims i) other
+  pub reserved : reserved-check twenty others (k * twenty .width) .fails ≡ false
 
 pub record Demand3 : Type 0 where
   -- R47
-  pub kept : (c : Claim) (v : Verdict) (e : ℕ) → Settled v → c .depth ≤ e → e ≤ depths
-      → judgeRule c ≡ verdict v → judgeRule (atDepth c e) ≡ verdict v
+  pub kept : (c : Claim) (v : Verdict) (other : ℕ) → Settled v → c .depth ≤ other → other ≤ depths
+      → judgeRule c ≡ verdict v → judgeRule (atDepth c other) ≡ verdict v
   -- R46, of the tests: where the confirming ones hold at one depth, the refuting ones hold at none
-  pub tests-never-both : (c : Cell) (u : Units) (n d e : ℕ) → CellIn c → u .ceiling ≤ T-units → d ≤ depths → e ≤ depths
-      → T (confirmed c d u n) → T (refuted c e u n) → ⊥
+  pub tests-never-both : (c : Cell) (u : Units) (n d other : ℕ) → CellIn c → u .ceiling ≤ T-units → d ≤ depths → other ≤ depths
+      → T (confirmed c d u n) → T (refuted c other u n) → ⊥
   -- R46, of the answers, whatever the two depths
-  pub never-both : (c : Claim) (d e : ℕ)
-      → judgeRule (atDepth c d) ≡ verdict Confirmed → judgeRule (atDepth c e) ≡ verdict Refuted → ⊥
+  pub never-both : (c : Claim) (d other : ℕ)
+      → judgeRule (atDepth c d) ≡ verdict Confirmed → judgeRule (atDepth c other) ≡ verdict Refuted → ⊥
   -- R46, R47 of the bytes that a batch writes
-  pub byte-kept : (claims others : List ℕ) (i j : ℕ) (v : Verdict) (e : ℕ) → Again claims i others j e → Settled v
-      → claimAt twenty claims i .depth ≤ e → e ≤ depths
-      → answerAt twenty claims i ≡ verdictNumber v → answerAt twenty others j ≡ verdictNumber v
-  pub bytes-never-both : (claims others : List ℕ) (i j e : ℕ) → Again claims i others j e
-      → answerAt twenty claims i ≡ verdictNumber Confirmed → answerAt twenty others j ≡ verdictNumber Refuted → ⊥
+  pub byte-kept : (claims others : List ℕ) (i k : ℕ) (v : Verdict) (other : ℕ) → Again claims i others k other → Settled v
+      → claimAt twenty claims i .depth ≤ other → other ≤ depths
+      → answerAt twenty claims i ≡ verdictNumber v → answerAt twenty others k ≡ verdictNumber v
+  pub bytes-never-both : (claims others : List ℕ) (i k other : ℕ) → Again claims i others k other
+      → answerAt twenty claims i ≡ verdictNumber Confirmed → answerAt twenty others k ≡ verdictNumber Refuted → ⊥
   -- R21
-  pub apart : (x y : ℕ) (g : Given) (d e : ℕ) → lowerRule x g d ≡ flagged true → upperRule y g e ≡ flagged true → x ≤ y
+  pub apart : (x y : ℕ) (g : Given) (d other : ℕ) → lowerRule x g d ≡ flagged true → upperRule y g other ≡ flagged true → x ≤ y
   -- R30
-  pub within : (g : Given) (d e : ℕ) → d ≤ e → enclosureRule g d .code ≡ number done → enclosureRule g e .code ≡ number done
-      → Within (enclosureRule g e) (enclosureRule g d)
+  pub within : (g : Given) (d other : ℕ) → d ≤ other → enclosureRule g d .code ≡ number done → enclosureRule g other .code ≡ number done
+      → Within (enclosureRule g other) (enclosureRule g d)

@@ -46,8 +46,8 @@ pub record Sums : Type 0 where
   pub even-never-rises : (X i k : ℕ) → X * X ≤ one * one * 20 → i ≤ k
       → (exact.S sine X (2 * k) *ℤ pos (exact.den sine (2 * i))) ≤ℤ (exact.S sine X (2 * i) *ℤ pos (exact.den sine (2 * k)))
   -- R13: a greater depth has no worse bounds
-  pub low-rises : (X d e : ℕ) → d ≤ e → Lo X d ≤ℤ Lo X e
-  pub high-falls : (X d e : ℕ) → d ≤ e → Hi X e ≤ℤ Hi X d
+  pub low-rises : (X d other : ℕ) → d ≤ other → Lo X d ≤ℤ Lo X other
+  pub high-falls : (X d other : ℕ) → d ≤ other → Hi X other ≤ℤ Hi X d
 
 pub record Ends : Type 0 where
   -- R17, R18: a cell's test holds exactly where the grid's holds at both corners, by any bound
@@ -56,8 +56,8 @@ pub record Ends : Type 0 where
   pub upper-corners : (c : Cell) (X : ℕ) (b : ℤ)
       → T (aboveBy c X b) ↔ T (aboveAt (orbitAt (c .m .up) (c .a .down)) X b) × T (aboveAt (orbitAt (c .m .up) (c .a .up)) X b)
   -- R22
-  pub lower-deeper : (x : ℕ) (g : Given) (d e : ℕ) → d ≤ e → e ≤ depths → lowerRule x g d ≡ flagged true → lowerRule x g e ≡ flagged true
-  pub upper-deeper : (x : ℕ) (g : Given) (d e : ℕ) → d ≤ e → e ≤ depths → upperRule x g d ≡ flagged true → upperRule x g e ≡ flagged true
+  pub lower-deeper : (x : ℕ) (g : Given) (d other : ℕ) → d ≤ other → other ≤ depths → lowerRule x g d ≡ flagged true → lowerRule x g other ≡ flagged true
+  pub upper-deeper : (x : ℕ) (g : Given) (d other : ℕ) → d ≤ other → other ≤ depths → upperRule x g d ≡ flagged true → upperRule x g other ≡ flagged true
   -- R23
   pub zero-always : (g : Given) (d : ℕ) → lowerRule 0 g d .code ≡ number done → lowerRule 0 g d ≡ flagged true
   pub T-never : (g : Given) (d : ℕ) → lowerRule T-units g d .code ≡ number done → lowerRule T-units g d ≡ flagged false

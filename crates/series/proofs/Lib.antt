@@ -4,7 +4,6 @@ pub mod BoundsTrue
 pub mod CodeBias
 pub mod CodePair
 pub mod CodeRange
-pub mod CodeSine
 pub mod CodeWalk
 pub mod Deeper
 pub mod Factorial

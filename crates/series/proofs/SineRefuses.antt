@@ -2,10 +2,8 @@
 use mathlib.Core.Path.{refl}
 use Prim.Native.Nat.{ℕ}
 use Rattle.grid.proofs.Refuses.{Makes, makes}
-use Rattle.series.specs.Sine.{Lo, Hi}
-use Rattle.series.specs.Entry.{sineChecks, sineRefused}
+use Rattle.series.specs.Entry.{sineChecks, sineRefused, sineBounds}
 use Rattle.series.specs.declared.SineBounds.{SineBounds}
 
-pub sines : (x d : ℕ)
-    → Makes (sineChecks x d) (λ (r : SineBounds). r .code) sineRefused (record { code = 0; lo = Lo x d; hi = Hi x d })
+pub sines : (x d : ℕ) → Makes (sineChecks x d) (λ (r : SineBounds). r .code) sineRefused (sineBounds x d)
 sines x d = makes refl (λ k. refl) tt

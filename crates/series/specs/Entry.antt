@@ -14,6 +14,10 @@ sineChecks x d = depth-check d ∷ x-check x ∷ []
 abbrev pub sineRefused : ℕ → SineBounds
 sineRefused code = record { code = code; lo = pos 0; hi = pos 0 }
 
--- R16: a code, else the two bounds
+-- R16: the two bounds
+abbrev pub sineBounds : ℕ → ℕ → SineBounds
+sineBounds x d = record { code = number done; lo = Lo x d; hi = Hi x d }
+
+-- R16: a code, else the bounds
 unfoldable pub sineRule : ℕ → ℕ → SineBounds
-sineRule x d = checked (sineChecks x d) sineRefused (record { code = number done; lo = Lo x d; hi = Hi x d })
+sineRule x d = checked (sineChecks x d) sineRefused (sineBounds x d)

@@ -7,7 +7,7 @@ ghost use Rattle.grid.specs.Limits.{AngleIn, DepthIn};
 ghost use Rattle.whole.specs.Round.{down, up};
 ghost use Rattle.series.specs.Sine.{sine};
 ghost use Rattle.series.specs.Walk.{bias, biasedBounds, walk, begun, deepened, term-limit, TermFits, PairFits, Unfinished};
-ghost use Rattle.series.specs.Entry.{sineRule};
+ghost use Rattle.series.specs.Entry.{sineBounds, sineRule};
 use grid::Angle;
 use grid::Depth;
 use grid::codes;
@@ -186,20 +186,30 @@ fn unbiased(biased: u64) -> i64
     (biased as i64) - (BIAS as i64)
 }
 
+// Lo and Hi of an angle and a depth within their limits, with code 0.
+fn sine_of(x: Angle, d: Depth) -> SineBounds
+    requires { ⌜ AngleIn x × DepthIn d ⌝ }
+    ensures { λ r. ⌜ r ≡ sineBounds (x .units) (d .pairs) ⌝ }
+{
+    let bounds = bounds_at(x, d);
+    SineBounds {
+        code: codes::DONE,
+        lo: unbiased(bounds.lo),
+        hi: unbiased(bounds.hi),
+    }
+}
+
 // Lo and Hi of an angle of x units at a depth, or the code of what is out of limits: 3, then 10.
 pub fn sine(x: u32, depth: u32) -> SineBounds
     ensures { λ r. ⌜ r ≡ sineRule x depth ⌝ }
 {
-    let made_depth = Depth::new(depth);
-    let made_angle = Angle::new(x);
-    let code = codes::earlier(made_depth.code, made_angle.code);
+    let made = Depth::new(depth);
+    let asked = Angle::new(x);
+    let code = codes::earlier(made.code, asked.code);
     if code != codes::DONE {
         return SineBounds { code, lo: 0, hi: 0 };
     }
-    let bounds = bounds_at(made_angle.angle, made_depth.depth);
-    SineBounds {
-        code,
-        lo: unbiased(bounds.lo),
-        hi: unbiased(bounds.hi),
-    }
+    let d = made.depth;
+    let angle = asked.angle;
+    sine_of(angle, d)
 }

@@ -46,10 +46,10 @@ passed-rounded x h = rounded (product x) (den x) (den-pos x) (estimate-fits x h 
 
 module _ (x : Float) (r : CodedUnits) (e : r ≡ codedEstimate x) (z : r .code ≡ 0) where
   pub made-passed : estimate-check x .fails ≡ false
-  made-passed = passed (estimate-check x ∷ []) tt (r .code) (estimates x .code-is r e) z .0
+  made-passed = passed (estimate-check x ∷ []) tt (r .code) (estimates x .says r e .code-is) z .0
 
   pub made-exact : T (fits binary64 x) → Value (mul binary64 x radian) (product x) (den x)
   made-exact t = product-value T-units x (lit≤ tt) t (passed-in-range T-units x made-passed)
 
   pub made-rounded : Rounded (product x) (den x) (r .units .floor) (r .units .ceiling)
-  made-rounded = rw (estimates x .value-is r e z) (passed-rounded x made-passed)
+  made-rounded = rw (estimates x .says r e .made z) (passed-rounded x made-passed)

@@ -12,11 +12,11 @@ use Rattle.grid.specs.Grid.{T-units}
 abbrev pub radian : Float
 radian = fin false 1 (pos 28)
 
--- the double x is a / c, and not below zero: `fin s m e` is m 2^e, and up e / down e is 2^e
+-- the double x is a / c, and not below zero: `fin s m exp` is m 2^exp, and up exp / down exp is 2^exp
 abbrev pub Value : Float → ℕ → ℕ → Type 0
 Value nan a c = ⊥
 Value (inf s) a c = ⊥
-Value (fin s m e) a c = (T s → m ≡ 0) × (m * up e * c ≡ a * down e)
+Value (fin s m exp) a c = (T s → m ≡ 0) × (m * up exp * c ≡ a * down exp)
 
 -- R41: f and c are a / d rounded down and up; they are equal exactly where the quotient is whole, and neither is above T
 pub record Rounded (a d f c : ℕ) : Type 0 where

@@ -23,7 +23,7 @@ floorAndCeiling x = record { floor = down (product x) (den x); ceiling = up (pro
 unfoldable pub offRange : ℕ → Float → Bool
 offRange limit nan = true
 offRange limit (inf s) = true
-offRange limit (fin s m e) = or (s && ltb 0 m) (ltb (limit * den (fin s m e)) (product (fin s m e)))
+offRange limit (fin s m exp) = or (s && ltb 0 m) (ltb (limit * den (fin s m exp)) (product (fin s m exp)))
 
 -- R41: f and c beside a code
 abbrev pub unitsWith : ℕ → Units → CodedUnits

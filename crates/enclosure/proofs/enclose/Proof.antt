@@ -2,54 +2,46 @@
 use mathlib.Core.Path.{_≡_, sym, ap, _∙_}
 use borrow.Author.Needs.{needs}
 use Rattle.grid.proofs.FirstCode.{goes, stops}
-use Rattle.orbit.specs.Cell.{gridCell}
-use Rattle.orbit.specs.Given.{grid, cellOf, problemChecks, problemAt, ProblemIn}
-use Rattle.orbit.specs.declared.Problem.{Problem}
-use Rattle.orbit.proofs.Posed.{problems, problem-made}
+use Rattle.grid.proofs.Refuses.{Says}
+use Rattle.orbit.specs.Given.{Given, grid, cellOf, problemChecks, problemAt, problemWith}
+use Rattle.orbit.specs.declared.CodedProblem.{CodedProblem}
+use Rattle.orbit.proofs.Posed.{problems, problem-in}
 use Rattle.enclosure.specs.Enclosure.{refusal}
 use Rattle.enclosure.proofs.CodeAnswer.{from-T}
 use Rattle.enclosure.proofs.enclose.Statement.{statement}
 use Rattle.enclosure.proofs.enclose.Tie as tie
 
-made : (c : tie.Else1)
-    → let n = c .before .before in
-    let g = n .before .args in
-    (n .new .result .problem ≡ problemAt (gridCell (g .m) (g .a)) (g .depth)) × ProblemIn (n .new .result .problem)
-made c =
-    let n = c .before .before in
-    let g = n .before .args in
-    problem-made (grid (g .m) (g .a)) (g .depth) _ (n .new .ensures) (c .if1 .left)
+abbrev given : tie.After-new → Given
+given c = grid (c .before .args .m) (c .before .args .a)
 
-new-requires : tie.Need-new-requires
-new-requires c κs = search needs
-
-refused-requires : tie.Need-refused-requires
-refused-requires c κs = search needs
+said : (c : tie.After-new)
+    → let d = c .before .args .depth in
+    Says (problemChecks (given c) d) (c .new .result .code) (c .new .result ≡ problemWith 0 (problemAt (cellOf (given c)) d))
+said c = problems (given c) (c .before .args .depth) .says _ (c .new .ensures)
 
 returns : tie.Need-returns
 returns c =
     let n = c .before .before .before in
-    let g = n .before .args in
-    let given = grid (g .m) (g .a) in
+    let d = n .before .args .depth in
     c .refused .ensures
-    ∙ sym
-    (stops (problemChecks given (g .depth)) _ (problems given (g .depth) .code-is _ (n .new .ensures)) (c .before .if1 .taken) refusal
-    (from-T (cellOf given) (g .depth)))
+    ∙ sym (stops (problemChecks (given n) d) _ (said n .code-is) (c .before .if1 .taken) refusal (from-T (cellOf (given n)) d))
 
 enclose-problem-requires : tie.Need-enclose-problem-requires
-enclose-problem-requires c κs = made (c .before) .1
+enclose-problem-requires c κs =
+    let n = c .before .before .before in
+    let d = n .before .args .depth in
+    let z = c .before .if1 .left in
+    rw (said n .made z) (problem-in (given n) d (problems (given n) d .passed-by (said n .code-is) z))
 
 returns-2 : tie.Need-returns-2
 returns-2 c =
-    let e = c .before .before in
-    let n = e .before .before in
-    let g = n .before .args in
-    let given = grid (g .m) (g .a) in
-    let p = problems given (g .depth) in
-    c .enclose-problem .ensures ∙ ap (λ (p : Problem). from-T (p .cell) (p .depth .pairs)) (made e .0)
+    let n = c .before .before .before .before in
+    let d = n .before .args .depth in
+    let z = c .before .before .if1 .left in
+    c .enclose-problem .ensures ∙ ap (λ (p : CodedProblem). from-T (p .problem .cell) (p .problem .depth .pairs)) (said n .made z)
     ∙ sym
-    (goes (problemChecks given (g .depth)) (p .passed-by _ (p .code-is _ (n .new .ensures)) (e .if1 .left)) refusal
-    (from-T (cellOf given) (g .depth)))
+    (goes (problemChecks (given n) d) (problems (given n) d .passed-by (said n .code-is) z) refusal (from-T (cellOf (given n)) d))
 
 pub enclose-spec : {M : Type 1} → statement M
-enclose-spec = tie.close (tie.spec new-requires refused-requires returns enclose-problem-requires returns-2)
+enclose-spec =
+    tie.close (tie.spec (λ c κs. search needs) (λ c κs. search needs) returns enclose-problem-requires returns-2)

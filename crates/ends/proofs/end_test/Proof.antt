@@ -1,80 +1,59 @@
 -- `ends::end_test` meets its contract, for either end: the problem's checks, then the angle's. Assumes nothing.
-use mathlib.Core.Path.{_≡_, refl, sym, ap, ap₂, _∙_}
+use mathlib.Core.Path.{_≡_, refl, ap, ap₂, _∙_}
 use mathlib.Core.List.{[], _∷_}
 use borrow.Author.Needs.{needs}
 use Rattle.grid.specs.Codes.{x-check}
-use Rattle.grid.specs.Limits.{AngleIn}
-use Rattle.grid.specs.declared.Angle.{Angle}
-use Rattle.grid.proofs.FirstCode.{CodeOf, in-turn, neither-code}
-use Rattle.grid.proofs.Made.{angles, angle-made}
-use Rattle.orbit.specs.Cell.{gridCell}
-use Rattle.orbit.specs.declared.Problem.{Problem}
-use Rattle.orbit.specs.Given.{grid, problemChecks, problemAt, ProblemIn}
-use Rattle.orbit.proofs.Posed.{problems, problem-made}
+use Rattle.grid.specs.Make.{angleWith}
+use Rattle.grid.specs.declared.CodedAngle.{CodedAngle}
+use Rattle.grid.proofs.FirstCode.{split}
+use Rattle.grid.proofs.Refuses.{Says, then}
+use Rattle.grid.proofs.Made.{angles, angle-in}
+use Rattle.orbit.specs.Given.{Given, grid, cellOf, problemChecks, problemAt, problemWith}
+use Rattle.orbit.specs.declared.CodedProblem.{CodedProblem}
+use Rattle.orbit.proofs.Posed.{problems, problem-in}
 use Rattle.ends.specs.Ends.{endAt}
 use Rattle.ends.specs.Entry.{endChecks, flagged}
 use Rattle.ends.proofs.Answered.{ends}
 use Rattle.ends.proofs.end_test.Statement.{statement}
 use Rattle.ends.proofs.end_test.Tie as tie
 
-code-is : (c : tie.After-earlier)
-    → let g = c .before .before .before .args in CodeOf (endChecks (g .x) (grid (g .m) (g .a)) (g .depth)) (c .earlier .result)
-code-is c =
+abbrev given : tie.After-earlier → Given
+given c = let g = c .before .before .before .args in grid (g .m) (g .a)
+
+said : (c : tie.After-earlier)
+    → let g = c .before .before .before .args in
+    Says (endChecks (g .x) (given c) (g .depth)) (c .earlier .result)
+    ((c .before .before .new .result ≡ problemWith 0 (problemAt (cellOf (given c)) (g .depth))) × (c .before .new2 .result ≡ angleWith 0 (g .x)))
+said c =
     let g = c .before .before .before .args in
-    let given = grid (g .m) (g .a) in
-    c .earlier .ensures
-    ∙ in-turn (problemChecks given (g .depth)) (x-check (g .x) ∷ []) tt _ _
-    (problems given (g .depth) .code-is _ (c .before .before .new .ensures)) (angles (g .x) .code-is _ (c .before .new2 .ensures))
-
--- with code 0 both were made
-codes : (c : tie.Else1) → (c .before .before .before .new .result .code ≡ 0) × (c .before .before .new2 .result .code ≡ 0)
-codes c = neither-code _ _ (sym (c .before .earlier .ensures) ∙ c .if1 .left)
-
-posed : (c : tie.Else1)
-    → let n = c .before .before .before in
-    let g = n .before .args in
-    (n .new .result .problem ≡ problemAt (gridCell (g .m) (g .a)) (g .depth)) × ProblemIn (n .new .result .problem)
-posed c =
-    let n = c .before .before .before in
-    let g = n .before .args in
-    problem-made (grid (g .m) (g .a)) (g .depth) _ (n .new .ensures) (codes c .0)
-
-angled : (c : tie.Else1)
-    → let n = c .before .before in
-    (n .new2 .result .angle ≡ record { units = n .before .before .args .x }) × AngleIn (n .new2 .result .angle)
-angled c =
-    let n = c .before .before in
-    angle-made (n .before .before .args .x) _ (n .new2 .ensures) (codes c .1)
-
-new-requires : tie.Need-new-requires
-new-requires c κs = search needs
-
-new-requires-2 : tie.Need-new-requires-2
-new-requires-2 c κs = search needs
-
-earlier-requires : tie.Need-earlier-requires
-earlier-requires c κs = search needs
+    then tt (problems (given c) (g .depth) .says _ (c .before .before .new .ensures)) (angles (g .x) .says _ (c .before .new2 .ensures)) _ (c .earlier .ensures)
 
 returns : tie.Need-returns
 returns c =
     let e = c .before in
     let g = e .before .before .before .args in
-    ends (g .upper) (g .x) (grid (g .m) (g .a)) (g .depth) .refused-by _ (code-is e) (c .if1 .taken) _ refl
+    ends (g .upper) (g .x) (given e) (g .depth) .refused-by (said e .code-is) (c .if1 .taken) _ refl
 
 accepted-requires : tie.Need-accepted-requires
-accepted-requires c κs = let e = c .before .before in record { problem = posed e .1; angle = angled e .1 }
-
-flag-requires : tie.Need-flag-requires
-flag-requires c κs = search needs
+accepted-requires c κs =
+    let t = c .before .before in
+    let e = t .before in
+    let g = e .before .before .before .args in
+    let (problem, angle) = said e .made (t .if1 .left) in
+    let p = ends (g .upper) (g .x) (given e) (g .depth) .passed-by (said e .code-is) (t .if1 .left) in
+    let (posed, asked) = split (problemChecks (given e) (g .depth)) (x-check (g .x) ∷ []) p in
+    rw (problem, angle) (record { problem = problem-in (given e) (g .depth) posed; angle = angle-in (g .x) asked })
 
 returns-2 : tie.Need-returns-2
 returns-2 c =
     let t = c .before .before .before .before in
-    let g = t .before .before .before .before .args in
-    ends (g .upper) (g .x) (grid (g .m) (g .a)) (g .depth) .given-by _ (code-is (t .before)) (t .if1 .left) _
-    (c .flag .ensures ∙ ap flagged (c .before .accepted .ensures ∙ ap₂ (λ (p : Problem) (x : Angle). endAt (g .upper) (p .cell) (p .depth .pairs) (x .units)) (posed t .0) (angled t .0)))
+    let e = t .before in
+    let g = e .before .before .before .args in
+    let (problem, angle) = said e .made (t .if1 .left) in
+    ends (g .upper) (g .x) (given e) (g .depth) .given-by (said e .code-is) (t .if1 .left) _
+    (c .flag .ensures ∙ ap flagged (c .before .accepted .ensures ∙ ap₂ (λ (p : CodedProblem) (a : CodedAngle). endAt (g .upper) (p .problem .cell) (p .problem .depth .pairs) (a .angle .units)) problem angle))
 
 pub end-test-spec : {M : Type 1} → statement M
 end-test-spec =
     tie.close
-    (tie.spec new-requires new-requires-2 earlier-requires returns accepted-requires flag-requires returns-2)
+    (tie.spec (λ c κs. search needs) (λ c κs. search needs) (λ c κs. search needs) returns accepted-requires (λ c κs. search needs) returns-2)
