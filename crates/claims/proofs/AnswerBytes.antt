@@ -8,15 +8,15 @@ use borrow.Author.Tests.{ne-eqb}
 use lib.Dec.{eqb}
 use lib.ListN.{getD}
 use Rattle.grid.specs.Grid.{N-units}
-use Rattle.grid.specs.Codes.{Check, checked, number}
-use Rattle.grid.proofs.Each.{of-checked}
+use Rattle.grid.specs.Codes.{checked}
+use Rattle.grid.proofs.Outcomes.{of-checked}
 use Rattle.grid.proofs.Refuses.{through, alike-refused}
 use Rattle.judge.specs.Judge.{Claim, claimChecks, caseAt, caseVerdict, verdict, unjudged, judgeRule}
 use Rattle.judge.specs.Verdict.{verdictNumber}
 use Rattle.judge.specs.declared.Judged.{Judged}
 use Rattle.judge.proofs.CodeAnswers.{of-judged}
 use Rattle.little.proofs.Digits.{little-small}
-use Rattle.claims.specs.Record.{reserved-check, recordChecks, claimAt, answerAt}
+use Rattle.claims.specs.Record.{reserved-check, claimAt, answerAt}
 use Rattle.claims.specs.AnswerByte.{AnswerByte, of-verdict, of-reserved, of-m, of-a, of-depth, of-estimate}
 use Rattle.claims.specs.declared.form.Form.{Form}
 

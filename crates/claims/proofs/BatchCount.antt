@@ -5,7 +5,7 @@ use native.Mathlib.Nat.{div-add-mod'}
 use native.Mathlib.Omega.{arith}
 use borrow.Author.Tests.{eq-eqb, ne-eqb, lt-ltb, le-ltb, eqb-true, ltb-false, not-false}
 use Rattle.grid.proofs.Refuses.{Makes, makes}
-use Rattle.grid.proofs.Each.{of-checked}
+use Rattle.grid.proofs.Outcomes.{of-checked}
 use Rattle.claims.specs.Batch.{batchChecks, batchWith, batchRule}
 use Rattle.claims.specs.declared.Batch.{Batch}
 use Rattle.claims.specs.declared.form.Form.{Form}

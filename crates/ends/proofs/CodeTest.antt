@@ -9,7 +9,6 @@ use native.Mathlib.Nat.{mul-le-mul-left}
 use lib.Dec.{T}
 use lib.IntN.{ℤ}
 use Rattle.whole.proofs.Bools.{alike, by-meaning, fails, both, both-parts}
-use Rattle.whole.proofs.Parts.{plus, minus}
 use Rattle.grid.specs.Grid.{one, H-units, T-units, depths}
 use Rattle.series.specs.Sine.{sine}
 use Rattle.series.specs.Walk.{bias, biased, walk}

@@ -10,7 +10,7 @@ use borrow.Author.Tests.{ne-eqb, eqb-true, eqb-false}
 use lib.Dec.{T, T-not, ltb, eqb, ltb→lt}
 use lib.Ieee.Fits.{eq→eqb}
 use Rattle.whole.proofs.Bools.{both-parts}
-use Rattle.grid.specs.Codes.{Code, Check, number, done, firstCode, earlier, checked, Passed}
+use Rattle.grid.specs.Codes.{Check, number, firstCode, earlier, checked, Passed}
 use Rattle.grid.specs.Refuses.{FirstFails, all}
 
 -- no code of a check is 0

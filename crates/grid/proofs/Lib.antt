@@ -2,4 +2,4 @@ pub mod Fits
 pub mod FirstCode
 pub mod Refuses
 pub mod Made
-pub mod Each
+pub mod Outcomes

@@ -6,7 +6,7 @@ use mathlib.Core.List.{[], _∷_, _++_}
 use lib.Ieee.{Float}
 use Rattle.grid.specs.Grid.{N-units}
 use Rattle.grid.specs.Codes.{checked, n-check}
-use Rattle.grid.proofs.Each.{of-checked}
+use Rattle.grid.proofs.Outcomes.{of-checked}
 use Rattle.orbit.specs.Given.{Given, grid, problemChecks}
 use Rattle.units.specs.Units.{estimate-check}
 use Rattle.judge.specs.Verdict.{verdictNumber}

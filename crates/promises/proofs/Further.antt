@@ -6,13 +6,13 @@ use Prim.Native.Nat.{ℕ, _+_, _^_, _≤_, _<_}
 use native.Mathlib.Omega.{arith}
 use lib.Ieee.{binary64, ofBits}
 use Rattle.grid.specs.Grid.{T-units, depths}
-use Rattle.grid.specs.Codes.{Passed, depth-check}
+use Rattle.grid.specs.Codes.{depth-check}
 use Rattle.grid.proofs.FirstCode.{split, join}
 use Rattle.grid.proofs.Fits.{depth-passes}
 use Rattle.series.proofs.Factorial.{den-is, num-is}
 use Rattle.series.proofs.Falling.{sine-odd-never-falls, sine-even-never-rises}
 use Rattle.series.proofs.Deeper.{Lo-rises, Hi-falls}
-use Rattle.orbit.specs.Given.{Given, checksOf, cellOf, problemChecks}
+use Rattle.orbit.specs.Given.{Given, checksOf, cellOf}
 use Rattle.ends.specs.Entry.{flagged, endRule}
 use Rattle.ends.proofs.Corners as tests
 use Rattle.ends.proofs.Known.{zero-lower, T-never}

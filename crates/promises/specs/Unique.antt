@@ -1,18 +1,23 @@
 -- Any two results that a contract allows for one input are equal, R55. What a contract allows is written here as the contract
 -- has it; of the batch and the program's function, what is returned and the answers buffer that is left, together.
 use mathlib.Core.Path.{_≡_}
+use mathlib.Core.Bool.{cond}
 use mathlib.Core.List.{List}
 use Prim.Native.Nat.{ℕ, _+_, _-_, min}
 use lib.IntN.{ℤ}
 use lib.Ieee.{Float}
+use lib.Dec.{ltb}
 use lib.ListN.{length}
 use Rattle.grid.specs.Grid.{T-units}
+use Rattle.grid.specs.Codes as codes
 use Rattle.grid.specs.Make.{codedAngle, codedEccentricity, codedDepth}
 use Rattle.grid.specs.declared.CodedAngle.{CodedAngle}
 use Rattle.grid.specs.declared.CodedEccentricity.{CodedEccentricity}
 use Rattle.grid.specs.declared.CodedDepth.{CodedDepth}
 use Rattle.series.specs.Entry.{sineRule}
 use Rattle.series.specs.declared.SineBounds.{SineBounds}
+use Rattle.orbit.specs.Cell.{gridCell}
+use Rattle.orbit.specs.declared.Cell.{Cell}
 use Rattle.orbit.specs.Given.{Given, codedCell, codedProblem}
 use Rattle.orbit.specs.declared.CodedCell.{CodedCell}
 use Rattle.orbit.specs.declared.CodedProblem.{CodedProblem}
@@ -66,8 +71,11 @@ pub record Unique : Type 0 where
   pub cell : (g : Given) → OneResult (λ (r : CodedCell). r ≡ codedCell g)
   pub problem : (g : Given) (depth : ℕ) → OneResult (λ (r : CodedProblem). r ≡ codedProblem g depth)
   pub in-units : (value : Float) (limit code : ℕ) → OneResult (λ (r : CodedUnits). r ≡ codedUnits value limit code)
-  -- the functions that crates share: the program's, the clamps into 0 to T, and a verdict's number
+  -- the functions that crates share: the program's, the codes', a cell of the grid, the clamps into 0 to T, a verdict's number
   pub answer-file : (input before : List ℕ) → OneResult (FileAllows input before)
+  pub limited : (n limit code : ℕ) → OneResult (λ (r : ℕ). r ≡ cond (ltb limit n) code (codes.number codes.done))
+  pub earlier : (code next : ℕ) → OneResult (λ (r : ℕ). r ≡ codes.earlier code next)
+  pub on-grid : (m a : ℕ) → OneResult (λ (r : Cell). r ≡ gridCell m a)
   pub step-down : (x n : ℕ) → OneResult (λ (r : ℕ). r ≡ x - n)
   pub step-up : (x n : ℕ) → OneResult (λ (r : ℕ). r ≡ min (x + n) T-units)
   pub bring : (angle : ℤ) → OneResult (λ (r : ℕ). r ≡ brought angle)

@@ -1,6 +1,4 @@
 -- `ends::by_bound` meets its contract, for either end. Assumes nothing.
-use mathlib.Core.Path.{ap}
-use lib.Dec.{leb}
 use borrow.Author.Needs.{needs}
 use Rattle.ends.proofs.by_bound.Statement.{statement}
 use Rattle.ends.proofs.by_bound.Tie as tie

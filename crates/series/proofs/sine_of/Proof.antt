@@ -1,5 +1,5 @@
 -- `series::sine_of` meets its contract: what was biased is read back. Assumes nothing.
-use mathlib.Core.Path.{_≡_, ap}
+use mathlib.Core.Path.{ap}
 use Prim.Native.Nat.{_*_, _≤_}
 use borrow.Author.Needs.{needs}
 use Rattle.series.specs.Sine.{Lo, Hi}
