@@ -25,15 +25,17 @@ belowBy c X b = leZ (pos one *ℤ (pos X -ℤ pos (c .m .down))) (lesser (pos (c
 unfoldable pub aboveBy : Cell → ℕ → ℤ → Bool
 aboveBy c X b = leZ (greater (pos (c .a .down) *ℤ b) (pos (c .a .up) *ℤ b)) (pos one *ℤ (pos X -ℤ pos (c .m .up)))
 
--- R17, R18: either test, `true` for that of an upper end, and the bound that it goes by
+-- R17, R18: either test, `true` for that of an upper end
 abbrev pub endBy : Bool → Cell → ℕ → ℤ → Bool
 endBy true = aboveBy
 endBy false = belowBy
 
+-- R17, R18: the bound that it goes by
 abbrev pub boundOf : Bool → ℕ → ℕ → ℤ
 boundOf true = Hi
 boundOf false = Lo
 
+-- R17, R18: and so the test at a depth
 abbrev pub endAt : Bool → Cell → ℕ → ℕ → Bool
 endAt upper c d X = endBy upper c X (boundOf upper X d)
 

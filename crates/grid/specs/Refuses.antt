@@ -7,13 +7,13 @@ use Prim.Native.Nat.{ℕ}
 use lib.Dec.{eqb}
 use Rattle.grid.specs.Codes.{Code, Check, number, done, firstCode, Passed}
 
--- a check with the number k fails, and none before it does
+-- R5: a check with the number k fails, and none before it does
 abbrev pub FirstFails : ℕ → List Check → Type 0
 FirstFails k [] = ⊥
 FirstFails k (c ∷ cs) =
     ((c .fails ≡ true) × (number (c .code) ≡ k)) ⊎ ((c .fails ≡ false) × FirstFails k cs)
 
--- the answer r of an entry with these checks, where `code` is the answer's code and `zeros k` the answer of code k whose
+-- R5 to R7: the answer r of an entry with these checks, where `code` is the answer's code and `zeros k` the answer of code k whose
 -- other numbers are all 0
 pub record Refuses {A : Type 0} (checks : List Check) (code : A → ℕ) (zeros : ℕ → A) (r : A) : Type 0 where
   -- R6: the code is that of the first check that fails
@@ -34,6 +34,7 @@ inOrder [] (c ∷ cs) = false
 inOrder (k ∷ ks) (c ∷ cs) =
     cond (eqb (number k) (number (c .code))) (inOrder ks cs) (inOrder ks (c ∷ cs))
 
+-- R5: whether a number is a code of a list
 abbrev pub among : ℕ → List Code → Bool
 among n [] = false
 among n (k ∷ ks) = cond (eqb n (number k)) true (among n ks)
@@ -43,7 +44,7 @@ abbrev pub distinct : List Code → Bool
 distinct [] = true
 distinct (k ∷ ks) = cond (among (number k) ks) false (distinct ks)
 
--- whether a test holds of all
+-- R6: whether a test holds of all
 abbrev pub all : {A : Type 0} → (A → Bool) → List A → Bool
 all test [] = true
 all test (x ∷ xs) = test x && all test xs

@@ -17,6 +17,7 @@ pub record Orbit : Type 0 where
   pub m : ℕ
   pub a : ℕ
 
+-- R1: M and A as they are
 abbrev pub orbitAt : ℕ → ℕ → Orbit
 orbitAt m a = record { m = m; a = a }
 

@@ -25,10 +25,11 @@ cellOf (grid m a) = gridCell m a
 abbrev pub exactOf : Given → Orbit
 exactOf (grid m a) = orbitAt m a
 
--- R4: a cell, or the first code that applies; R7: zeros beside a code
+-- R4: a code and a cell
 abbrev pub cellWith : ℕ → Cell → CodedCell
 cellWith code c = record { code = code; cell = c }
 
+-- R4: the first code that applies, or the cell; R7: zeros beside a code
 abbrev pub codedCell : Given → CodedCell
 codedCell g = checked (checksOf g) (λ k. cellWith k (gridCell 0 0)) (cellWith (number done) (cellOf g))
 
@@ -40,10 +41,11 @@ problemChecks g d = checksOf g ++ depth-check d ∷ []
 abbrev pub problemAt : Cell → ℕ → Problem
 problemAt c d = record { cell = c; depth = record { pairs = d } }
 
+-- R4: a code and a problem
 abbrev pub problemWith : ℕ → Problem → CodedProblem
 problemWith code p = record { code = code; problem = p }
 
--- R4: that, or the first code that applies; R7: zeros beside a code
+-- R4: the first code that applies, or the problem; R7: zeros beside a code
 abbrev pub codedProblem : Given → ℕ → CodedProblem
 codedProblem g d =
     checked (problemChecks g d) (λ k. problemWith k (problemAt (gridCell 0 0) 0)) (problemWith (number done) (problemAt (cellOf g) d))

@@ -18,13 +18,14 @@ use Rattle.claims.specs.Form.{twenty}
 use Rattle.claims.specs.Record.{reserved-check}
 use Rattle.claims.specs.Batch.{length-check, answers-check}
 
--- code 4: a NaN, infinite, below zero, or above T units; a finite estimate is product / den units in size
+-- R5: code 4, a NaN, infinite, below zero, or above T units; a finite estimate is product / den units in size
 abbrev pub OffRange : Float → Type 0
 OffRange nan = Unit {0}
 OffRange (inf s) = Unit {0}
 OffRange (fin s m exp) =
     ((s ≡ true) × (0 < m)) ⊎ (T-units * den (fin s m exp) < product (fin s m exp))
 
+-- R5: a check fails exactly when its condition holds
 abbrev pub Exactly : Check → Type 0 → Type 0
 Exactly c condition = c .fails ≡ true ↔ condition
 

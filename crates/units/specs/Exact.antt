@@ -8,11 +8,11 @@ use lib.Ieee.{Float, nan, inf, fin, up, down}
 use mathlib.Core.Bool.{false}
 use Rattle.grid.specs.Grid.{T-units}
 
--- the units in one radian, 2^28, as a double
+-- R41: the units in one radian, 2^28, as a double
 abbrev pub radian : Float
 radian = fin false 1 (pos 28)
 
--- the double x is a / c, and not below zero: `fin s m exp` is m 2^exp, and up exp / down exp is 2^exp
+-- R41: the double x is a / c, and not below zero: `fin s m exp` is m 2^exp, and up exp / down exp is 2^exp
 abbrev pub Value : Float → ℕ → ℕ → Type 0
 Value nan a c = ⊥
 Value (inf s) a c = ⊥
