@@ -47,7 +47,7 @@ pub struct Walk {
     pub least: u64,
 }
 
-const ROUND: u64 = 268_435_455;
+const ROUND: u64 = grid::ONE - 1;
 
 // t q / (2^28 divisor), rounded down once: the shift's loss can't reach the next multiple.
 fn term_down(t: u64, q: u64, divisor: u64) -> u64

@@ -1,6 +1,7 @@
 // From a double to whole units of 2^-28: the floor and the ceiling.
 ghost use mathlib.Core.Path.{_≡_};
 ghost use Rattle.units.specs.Units.{codedUnits};
+use grid::Eccentricity;
 use grid::codes;
 
 // A double in units, rounded down and rounded up.
@@ -16,7 +17,7 @@ pub struct CodedUnits {
 }
 
 // 2^28, the units in one radian.
-const RADIAN: f64 = 268435456.0;
+const RADIAN: f64 = Eccentricity::ONE as f64;
 
 // The value in units where it is 0 to the limit, else the code. A NaN fails every test, and -0.0 passes as 0 does. The
 // product is exact, or it overflows to an infinity, which no limit reaches.
