@@ -22,7 +22,7 @@ use Rattle.orbit.specs.Cell.{Orbit, orbitAt}
 use Rattle.orbit.specs.declared.Span.{Span}
 use Rattle.ends.specs.Ends.{belowAt, aboveAt, belowBy, aboveBy, endBy, boundOf, endAt}
 use Rattle.ends.specs.Corner.{oneMean, cornerOf, testBy, ownBound, WalkIn}
-use Rattle.ends.proofs.Tests.{below-test, above-test}
+use Rattle.ends.proofs.InNaturals.{below-test, above-test}
 use Rattle.ends.proofs.Corners.{NoWorse, below-corners, above-corners, better}
 
 -- the grid's test of an upper end, or of a lower one

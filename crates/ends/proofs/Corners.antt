@@ -15,7 +15,7 @@ use Rattle.orbit.specs.Cell.{Orbit, orbitAt}
 use Rattle.orbit.specs.declared.Cell.{Cell}
 use Rattle.ends.specs.Ends.{belowAt, aboveAt, belowBy, aboveBy, endBy, boundOf, endAt}
 use Rattle.ends.proofs.BothEnds as ends
-use Rattle.ends.proofs.Tests.{below-test, above-test}
+use Rattle.ends.proofs.InNaturals.{below-test, above-test}
 
 module _ (c : Cell) (X : ℕ) (b : ℤ) where
   pub below-corners : T (belowBy c X b)

@@ -19,7 +19,7 @@ use Rattle.ends.specs.Ends.{belowAt, aboveAt, lowerEnd, upperEnd}
 use Rattle.ends.specs.Exact.{LowerExact, UpperExact, LowerSpare, UpperSpare}
 use Rattle.ends.proofs.BothEnds.{accept, refuse}
 use Rattle.ends.proofs.Corners.{below-corners, above-corners}
-use Rattle.ends.proofs.Tests.{below-test, above-test, lower-exact, upper-exact, lower-spares, upper-spares}
+use Rattle.ends.proofs.InNaturals.{below-test, above-test, lower-exact, upper-exact, lower-spares, upper-spares}
 
 -- ---- the sine bounds by naturals
 

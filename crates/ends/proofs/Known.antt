@@ -25,7 +25,7 @@ use Rattle.orbit.specs.declared.Cell.{Cell}
 use Rattle.ends.specs.Ends.{belowAt, aboveAt, lowerEnd, upperEnd}
 use Rattle.ends.proofs.BothEnds.{no-sine}
 use Rattle.ends.proofs.Corners.{below-corners, above-corners, deeper}
-use Rattle.ends.proofs.Tests.{below-test, above-test, lower-exact}
+use Rattle.ends.proofs.InNaturals.{below-test, above-test, lower-exact}
 use Rattle.ends.proofs.Exact.{below-true}
 
 -- ---- three computed facts

@@ -1,5 +1,5 @@
 pub mod BothEnds
-pub mod Tests
+pub mod InNaturals
 pub mod Corners
 pub mod Exact
 pub mod Apart
