@@ -31,7 +31,7 @@ returns : tie.Need-returns
 unfolding concluded
 returns c =
     let p = c .before .before .before .before .pre .state in
-    cc (angle-is (c .before .before), read (p .cosine), read (p .sine))
+    simp (angle-is (c .before .before), read (p .cosine), read (p .sine), c .before .certify .ensures)
 
 pub conclude-spec : {M : Type 1} → statement M
 conclude-spec = tie.close (tie.spec bring-requires certify-requires cast-t5 returns)

@@ -1,5 +1,5 @@
 -- `rotations::rotate` meets its contract: after i turns of the loop the state is that of i rotations. Assumes nothing.
-use mathlib.Core.Path.{_≡_}
+use mathlib.Core.Path.{_≡_, ap₂, _∙_}
 use Prim.Native.Nat.{_≤_, _-_}
 use native.Mathlib.Omega.{arith}
 use native.Mathlib.Numerals.{add-one}
@@ -36,11 +36,17 @@ turn-requires c κs = record { state = state-roomy (c .before .before); shift = 
 
 loop-again : tie.Need-loop-again Inv-loop μ-loop
 unfolding rotations
-loop-again c = (search needs, rw add-one (cc))
+loop-again c =
+    let signed = c .before .before in
+    let so-far = signed .before .before .loop .inv .1 in
+    (search needs, rw add-one (simp (c .turn .ensures, c .before .shift-of .ensures, signed .sign .ensures, so-far)))
 
 returns : tie.Need-returns Inv-loop μ-loop
 unfolding rotated
-returns c = let e : c .before .loop .i ≡ fifty = omega arith in cc
+returns c =
+    let l = c .before .loop in
+    let e : l .i ≡ fifty = omega arith in
+    l .inv .1 ∙ ap₂ (rotations (c .before .before .before .args .m)) e (c .before .before .start .ensures)
 
 pub rotate-spec : {M : Type 1} → statement M
 rotate-spec =

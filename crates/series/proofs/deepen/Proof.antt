@@ -49,7 +49,7 @@ returns : tie.Need-returns
 unfolding deepened
 returns c =
     let t = c .before .before .before .before .before in
-    cc (
+    simp (
       t .before .before .before .term-down .ensures,
       t .before .before .term-up .ensures,
       t .before .term-down2 .ensures,

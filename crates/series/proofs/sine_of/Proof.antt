@@ -30,7 +30,7 @@ returns c =
     let b = c .before .before in
     let p = unbiased-back _ _ _ (c .before .unbiased .ensures) (ap (λ (t : Biased). t .lo) (b .bounds-at .ensures)) (in-bounds b .0) in
     let q = unbiased-back _ _ _ (c .unbiased2 .ensures) (ap (λ (t : Biased). t .hi) (b .bounds-at .ensures)) (in-bounds b .1) in
-    cc (p, q)
+    simp (p, q)
 
 pub sine-of-spec : {M : Type 1} → statement M
 sine-of-spec = tie.close (tie.spec (λ c κs. search needs) unbiased-requires unbiased-requires-2 returns)

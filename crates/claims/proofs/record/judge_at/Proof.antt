@@ -25,7 +25,19 @@ judge-requires : tie.Need-judge-requires
 judge-requires c κs = search needs
 
 returns : tie.Need-returns
-returns c = cc
+returns c =
+    let last = c .before in
+    let bits = last .before .before .before in
+    let first = bits .before .before in
+    simp (
+      c .judge .ensures,
+      last .word-of4 .ensures,
+      last .before .word-of3 .ensures,
+      last .before .before .double .ensures,
+      bits .value-of .ensures,
+      bits .before .word-of2 .ensures,
+      first .word-of .ensures,
+    )
 
 pub judge-at-spec : {M : Type 1} → statement M
 judge-at-spec =

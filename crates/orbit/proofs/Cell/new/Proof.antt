@@ -1,11 +1,12 @@
 -- `orbit::Cell::new` meets its contract: M's check, then A's. Assumes nothing.
 use borrow.Author.Needs.{needs}
+use mathlib.Core.Path.{ap, ap₂}
 use Rattle.grid.specs.Grid.{H-units}
 use Rattle.grid.specs.Codes.{bad-m}
 use Rattle.grid.proofs.FirstCode.{CodeOf}
 use Rattle.grid.proofs.Refuses.{limits, then}
 use Rattle.grid.proofs.Made.{eccentricities}
-use Rattle.orbit.specs.Given.{Given, grid, checksOf}
+use Rattle.orbit.specs.Given.{Given, grid, checksOf, cellWith}
 use Rattle.orbit.proofs.Posed.{cells}
 use Rattle.orbit.proofs.Cell.new.Statement.{statement}
 use Rattle.orbit.proofs.Cell.new.Tie as tie
@@ -20,10 +21,15 @@ code-is c =
     then tt m (eccentricities (g .a) .says _ (c .before .new .ensures)) _ (c .earlier .ensures) .code-is
 
 returns : tie.Need-returns
-returns c = let e = c .before .before in cells (given e) .given-by (code-is e) (c .before .if1 .taken) _ (cc)
+returns c =
+    let e = c .before .before in
+    let zero = c .before .if1 .taken in
+    cells (given e) .given-by (code-is e) zero _ (ap₂ cellWith zero (c .on-grid .ensures))
 
 returns-2 : tie.Need-returns-2
-returns-2 c = let e = c .before .before in cells (given e) .refused-by (code-is e) (c .before .if1 .left) _ (cc)
+returns-2 c =
+    let e = c .before .before in
+    cells (given e) .refused-by (code-is e) (c .before .if1 .left) _ (ap (cellWith (e .earlier .result)) (c .on-grid2 .ensures))
 
 pub new-spec : {M : Type 1} → statement M
 new-spec =

@@ -22,7 +22,7 @@ returns-2 c =
     let g = e .before .before .before .args in
     let given = grid (g .m) (g .a) in
     let s = then tt (cells given .says _ (e .before .before .new .ensures)) (depths-made (g .depth) .says _ (e .before .new2 .ensures)) _ (e .earlier .ensures) in
-    problems given (g .depth) .refused-by (s .code-is) (c .before .if1 .left) _ (cc)
+    problems given (g .depth) .refused-by (s .code-is) (c .before .if1 .left) _ (simp (c .on-grid .ensures))
 
 pub new-spec : {M : Type 1} → statement M
 new-spec =
