@@ -1,14 +1,14 @@
 -- The code's test at a corner, on a biased bound, is the grid's; and where the other bound of a depth fails it, no depth
 -- accepts. Assumes nothing.
-use mathlib.Core.Path.{_≡_, ap, ap₂, subst, sym, _∙_}
-use mathlib.Core.Bool.{Bool, true, false, not, _&&_}
+use mathlib.Core.Path.{_≡_, refl, ap, ap₂, subst, sym, _∙_}
+use mathlib.Core.Bool.{Bool, true, false, not, cond, _&&_}
 use mathlib.Core.Logic.{_↔_}
 use Prim.Native.Nat.{ℕ, suc, _+_, _*_, _≤_}
 use native.Mathlib.Omega.{arith}
 use native.Mathlib.Nat.{mul-le-mul-left}
 use lib.Dec.{T}
 use lib.IntN.{ℤ}
-use Rattle.whole.proofs.Bools.{alike, by-meaning, fails, both, both-parts}
+use Rattle.whole.proofs.Bools.{alike, by-meaning, passed, passes, fails, both, both-parts}
 use Rattle.grid.specs.Grid.{one, H-units, T-units, depths}
 use Rattle.series.specs.Sine.{sine}
 use Rattle.series.specs.Walk.{bias, biased, walk}
@@ -21,9 +21,11 @@ use Rattle.series.proofs.CodeWalk.{bounds}
 use Rattle.orbit.specs.Cell.{Orbit, orbitAt}
 use Rattle.orbit.specs.declared.Span.{Span}
 use Rattle.ends.specs.Ends.{belowAt, aboveAt, belowBy, aboveBy, endBy, boundOf, endAt}
-use Rattle.ends.specs.Corner.{oneMean, cornerOf, testBy, ownBound, WalkIn}
+use Rattle.ends.specs.declared.AtDepth.{AtDepth}
+use Rattle.ends.specs.declared.Corner.{Corner}
+use Rattle.ends.specs.Corner.{oneMean, cornerOf, testBy, ownBound, atDepth, WalkIn}
 use Rattle.ends.proofs.InNaturals.{below-test, above-test}
-use Rattle.ends.proofs.Corners.{NoWorse, below-corners, above-corners, better}
+use Rattle.ends.proofs.Corners.{NoWorse, below-corners, above-corners, better, deeper}
 
 -- the grid's test of an upper end, or of a lower one
 abbrev gridBy : Bool → Orbit → ℕ → ℤ → Bool
@@ -62,6 +64,49 @@ no-better : (upper : Bool) (X d k : ℕ) → X ≤ T-units → d ≤ depths → 
 no-better true X d k x i j = Lo-le-Hi X k d x j i
 no-better false X d k x i j = Lo-le-Hi X d k x i j
 
+-- what settles is the answer, where acceptance stays and the other bound's failure rules it out
+settled : (least most other r : Bool) → cond least most (not other) ≡ true
+    → (true ≡ (least && most) → true ≡ r) → (other ≡ false → false ≡ r) → (least && most) ≡ r
+settled true true other r e stays never = stays refl
+settled true false other r e stays never = absurd (passed false (sym e))
+settled false most true r e stays never = absurd (passed false (sym e))
+settled false most false r e stays never = never refl
+
+unsettled : (least most other : Bool) → cond least most (not other) ≡ false → (least && most) ≡ false
+unsettled true most other e = e
+unsettled false most other e = refl
+
+-- the tests of one depth
+module _ (upper : Bool) (least most : Corner) (w : Walk) where
+  abbrev leastPasses : Bool
+  leastPasses = testBy upper least (ownBound upper w)
+
+  abbrev mostPasses : Bool
+  mostPasses = testBy upper most (ownBound upper w)
+
+  abbrev otherPasses : Bool
+  otherPasses = testBy upper least (ownBound (not upper) w)
+
+  abbrev now : AtDepth
+  now = atDepth upper least most w
+
+  says : Bool → AtDepth
+  says t = record { settles = cond t mostPasses (not otherPasses); accepts = t && mostPasses }
+
+  pub least-passed : {r : Bool} → leastPasses ≡ true → r ≡ mostPasses → _≡_ {A = AtDepth} record { settles = r; accepts = r } now
+  unfolding says
+  least-passed p q = ap (λ (t : Bool). record { settles = t; accepts = t }) q ∙ ap says (sym p)
+
+  pub least-failed : {r : Bool} → leastPasses ≡ false → r ≡ otherPasses → _≡_ {A = AtDepth} record { settles = not r; accepts = false } now
+  unfolding says
+  least-failed p q = ap (λ (t : Bool). record { settles = not t; accepts = false }) q ∙ ap says (sym p)
+
+  now-settled : (r : Bool) → now .settles ≡ true → (true ≡ now .accepts → true ≡ r) → (otherPasses ≡ false → false ≡ r) → now .accepts ≡ r
+  now-settled r = settled leastPasses mostPasses otherPasses r
+
+  now-unsettled : now .settles ≡ false → now .accepts ≡ false
+  now-unsettled = unsettled leastPasses mostPasses otherPasses
+
 module _ (X : ℕ) (x : X ≤ T-units) (w : Walk) (n : ℕ) (at : w ≡ walk sine X (suc n)) (few : suc n ≤ depths) where
   in-bounds : (upper : Bool) → InBounds (boundOf upper X (suc n))
   in-bounds true = Hi-within X (suc n) x few
@@ -81,16 +126,20 @@ module _ (X : ℕ) (x : X ≤ T-units) (w : Walk) (n : ℕ) (at : w ≡ walk sin
       ap (testBy upper (cornerOf o X)) (walk-bound side w X n at) ∙ test-is upper o X (boundOf side X (suc n)) (in-bounds side)
 
   module _ (m : ℕ) (a : Span) where
+    abbrev least : Corner
+    least = cornerOf (orbitAt m (a .down)) X
+
+    abbrev most : Corner
+    most = cornerOf (orbitAt m (a .up)) X
+
     -- both corners' tests are the cell's, at the depth that the walk has come to
-    pub own-test : (upper : Bool)
-        → (testBy upper (cornerOf (orbitAt m (a .down)) X) (ownBound upper w) && testBy upper (cornerOf (orbitAt m (a .up)) X) (ownBound upper w))
-        ≡ endAt upper (oneMean m a) (suc n) X
+    own-test : (upper : Bool) → atDepth upper least most w .accepts ≡ endAt upper (oneMean m a) (suc n) X
     own-test upper =
         ap₂ _&&_ (corner-test upper upper (orbitAt m (a .down))) (corner-test upper upper (orbitAt m (a .up)))
         ∙ both-is upper m a X (boundOf upper X (suc n))
 
     -- where the other bound fails a corner's test, no depth accepts
-    pub other-test : (upper : Bool) → testBy upper (cornerOf (orbitAt m (a .down)) X) (ownBound (not upper) w) ≡ false
+    other-test : (upper : Bool) → testBy upper least (ownBound (not upper) w) ≡ false
         → (d : ℕ) → d ≤ depths → false ≡ endAt upper (oneMean m a) d X
     other-test upper e d j =
         let z = boundOf (not upper) X (suc n) in
@@ -99,3 +148,16 @@ module _ (X : ℕ) (x : X ≤ T-units) (w : Walk) (n : ℕ) (at : w ≡ walk sin
         (λ t.
         let h = better upper (oneMean m a) X (boundOf upper X d) z (no-better upper X d (suc n) x j few) t in
         subst T f (both-parts (gridBy upper (orbitAt m (a .down)) X z) (gridBy upper (orbitAt m (a .up)) X z) (subst T (sym (both-is upper m a X z)) h) .0))
+
+    -- what settles is the answer at every greater depth
+    pub settles-on : (upper : Bool) → atDepth upper least most w .settles ≡ true
+        → (d : ℕ) → suc n ≤ d → d ≤ depths → atDepth upper least most w .accepts ≡ endAt upper (oneMean m a) d X
+    settles-on upper e d k j =
+        let c = oneMean m a in
+        now-settled upper least most w (endAt upper c d X) e
+        (λ t. passes (endAt upper c d X) (deeper upper c X k (passed (endAt upper c (suc n) X) (t ∙ own-test upper))))
+        (λ f. other-test upper f d j)
+
+    -- what doesn't settle doesn't accept
+    pub goes-on : (upper : Bool) → atDepth upper least most w .settles ≡ false → false ≡ endAt upper (oneMean m a) (suc n) X
+    goes-on upper e = sym (now-unsettled upper least most w e) ∙ own-test upper

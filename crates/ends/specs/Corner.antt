@@ -1,6 +1,6 @@
 -- An end test as the code makes it. No entry's contract cites this file: it is checked, and need not be believed.
 use Prim.Native.Nat.{ℕ, _+_, _*_, _≤_}
-use mathlib.Core.Bool.{Bool, true, false}
+use mathlib.Core.Bool.{Bool, true, false, not, cond, _&&_}
 use lib.Dec.{leb}
 use Rattle.grid.specs.Grid.{one, H-units, T-units}
 use Rattle.grid.specs.Limits.{AngleIn, DepthIn}
@@ -14,6 +14,7 @@ use Rattle.orbit.specs.declared.Span.{Span}
 use Rattle.orbit.specs.declared.Cell.{Cell}
 use Rattle.orbit.specs.declared.Problem.{Problem}
 use Rattle.ends.specs.declared.Corner.{Corner}
+use Rattle.ends.specs.declared.AtDepth.{AtDepth}
 
 -- what the test of an angle rests on
 pub record Asked (p : Problem) (x : Angle) : Type 0 where
@@ -46,6 +47,14 @@ testBy false c bound = leb (c .level) (c .shape * bound + c .mean)
 abbrev pub ownBound : Bool → Walk → ℕ
 ownBound true w = w .least
 ownBound false w = w .greatest
+
+-- what one depth says: whether both corners accept; that settles every greater depth too where they do, and where the other
+-- bound fails the least corner
+abbrev pub atDepth : Bool → Corner → Corner → Walk → AtDepth
+atDepth upper least most w =
+    let first = testBy upper least (ownBound upper w) in
+    let second = testBy upper most (ownBound upper w) in
+    record { settles = cond first second (not (testBy upper least (ownBound (not upper) w))); accepts = first && second }
 
 -- numbers whose products and sums fit
 pub record BoundIn (c : Corner) (bound : ℕ) : Type 0 where

@@ -1,12 +1,11 @@
 // The two end tests: whether an angle is accepted as an end below or above the root.
 ghost use mathlib.Core.Path.{_≡_};
-ghost use mathlib.Core.Bool.{not, _&&_};
 ghost use Prim.Native.Nat.{_+_, _*_};
 ghost use Rattle.orbit.specs.Cell.{orbitAt};
 ghost use Rattle.orbit.specs.Given.{grid};
 ghost use Rattle.ends.specs.Ends.{endAt, lowerEnd, upperEnd};
 ghost use Rattle.ends.specs.Entry.{endRule, lowerRule, upperRule, flagged};
-ghost use Rattle.ends.specs.Corner.{Asked, Settling, CornerIn, BoundIn, WalkIn, oneMean, cornerOf, testBy, ownBound};
+ghost use Rattle.ends.specs.Corner.{Asked, Settling, CornerIn, BoundIn, WalkIn, oneMean, cornerOf, testBy, atDepth};
 use grid::Angle;
 use grid::Depth;
 use grid::codes;
@@ -52,36 +51,46 @@ fn by_bound(c: Corner, bound: u64, upper: bool) -> bool
     }
 }
 
-// Whether both corners accept an end, at the depth that the walk has come to. Each end's test stands in its own arm, which is
-// faster than a choice of the bound.
-fn accepts(least: Corner, most: Corner, w: Walk, upper: bool) -> bool
+// What one depth says of an end: whether both corners accept it, and whether that settles every greater depth's test too.
+struct AtDepth {
+    settles: bool,
+    accepts: bool,
+}
+
+// At the depth that the walk has come to: what is accepted stays so, and where the other bound fails the least corner no depth
+// accepts. Each end's tests stand in their own arm, which is faster than a choice of the bound.
+fn at_depth(least: Corner, most: Corner, w: Walk, upper: bool) -> AtDepth
     requires { ⌜ WalkIn least w × WalkIn most w ⌝ }
-    ensures { λ r. ⌜ r ≡ (testBy upper least (ownBound upper w) && testBy upper most (ownBound upper w)) ⌝ }
+    ensures { λ r. ⌜ r ≡ atDepth upper least most w ⌝ }
 {
     if upper {
         if by_bound(least, w.least, true) {
-            by_bound(most, w.least, true)
+            let both = by_bound(most, w.least, true);
+            AtDepth {
+                settles: both,
+                accepts: both,
+            }
         } else {
-            false
+            let open = by_bound(least, w.greatest, true);
+            AtDepth {
+                settles: !open,
+                accepts: false,
+            }
         }
     } else {
         if by_bound(least, w.greatest, false) {
-            by_bound(most, w.greatest, false)
+            let both = by_bound(most, w.greatest, false);
+            AtDepth {
+                settles: both,
+                accepts: both,
+            }
         } else {
-            false
+            let open = by_bound(least, w.least, false);
+            AtDepth {
+                settles: !open,
+                accepts: false,
+            }
         }
-    }
-}
-
-// Whether the other bound of this depth fails the test of a corner: then so does every depth's own.
-fn hopeless(c: Corner, w: Walk, upper: bool) -> bool
-    requires { ⌜ WalkIn c w ⌝ }
-    ensures { λ r. ⌜ r ≡ not (testBy upper c (ownBound (not upper) w)) ⌝ }
-{
-    if upper {
-        !by_bound(c, w.greatest, true)
-    } else {
-        !by_bound(c, w.least, false)
     }
 }
 
@@ -97,13 +106,11 @@ fn settle(m: u64, a: Span, depth: Depth, x: Angle, upper: bool) -> bool
     let mut w = series::begin(angle, angle);
     loop {
         w = series::further(w);
-        if accepts(least, most, w, upper) {
-            return true;
+        let now = at_depth(least, most, w, upper);
+        if now.settles {
+            return now.accepts;
         }
         if w.pairs == pairs {
-            return false;
-        }
-        if hopeless(least, w, upper) {
             return false;
         }
     }

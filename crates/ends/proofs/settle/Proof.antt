@@ -1,22 +1,20 @@
 -- `ends::settle` meets its contract: the walk goes on until a depth accepts, rules every depth out, or is the one asked for.
 -- Assumes nothing.
 use mathlib.Core.Path.{_≡_, sym, ap, ap₂, _∙_}
-use mathlib.Core.Bool.{not, _&&_}
 use Prim.Native.Nat.{ℕ, suc, _-_, _≤_, _<_}
 use native.Mathlib.Omega.{arith}
 use borrow.Author.Needs.{needs}
-use borrow.Author.Tests.{not-true}
-use Rattle.whole.proofs.Bools.{passed, passes}
 use Rattle.grid.specs.Grid.{depths}
 use Rattle.series.specs.Sine.{sine}
 use Rattle.series.specs.Walk.{walk}
 use Rattle.series.specs.declared.Walk.{Walk}
 use Rattle.series.proofs.CodeWalk.{begins, unfinished, onward, own-pairs}
+use Rattle.orbit.specs.Cell.{orbitAt}
 use Rattle.ends.specs.Ends.{endAt}
-use Rattle.ends.specs.Corner.{oneMean, testBy, ownBound, WalkIn}
+use Rattle.ends.specs.Corner.{oneMean, cornerOf, atDepth, WalkIn}
 use Rattle.ends.specs.declared.Corner.{Corner}
-use Rattle.ends.proofs.Corners.{deeper}
-use Rattle.ends.proofs.CodeTest.{walk-in, own-test, other-test}
+use Rattle.ends.specs.declared.AtDepth.{AtDepth}
+use Rattle.ends.proofs.CodeTest.{walk-in, settles-on, goes-on}
 use Rattle.ends.proofs.settle.Statement.{statement}
 use Rattle.ends.proofs.settle.Tie as tie
 
@@ -48,20 +46,16 @@ corners-in c =
     let may = walk-in (s .args .x .units) (p .angle .top) (c .further .result) _ (next c) (few c) (s .args .m) in
     (rw (c .before .before .before .before .corner-at .ensures) (may _ (p .cell .mean) (omega arith)), rw (c .before .before .before .corner-at2 .ensures) (may _ (p .cell .mean) h))
 
--- what the first test says
-own : (c : tie.After-accepts Inv-loop μ-loop)
+-- what a depth says of the corners
+corners-say : (c : tie.After-at-depth Inv-loop μ-loop)
     → let f = c .before in
     let g = f .before .before .before .before .before .before .args in
-    c .accepts .result ≡ endAt (g .upper) (oneMean (g .m) (g .a)) (f .further .result .pairs) (g .x .units)
-own c =
+    c .at-depth .result ≡ atDepth (g .upper) (cornerOf (orbitAt (g .m) (g .a .down)) (g .x .units)) (cornerOf (orbitAt (g .m) (g .a .up)) (g .x .units)) (f .further .result)
+corners-say c =
     let f = c .before in
-    let s = f .before .before .before .before .before .before in
-    let g = s .args in
-    let b = ownBound (g .upper) (f .further .result) in
-    c .accepts .ensures
-    ∙ ap₂ (λ (p q : Corner). testBy (g .upper) p b && testBy (g .upper) q b) (f .before .before .before .before .corner-at .ensures) (f .before .before .before .corner-at2 .ensures)
-    ∙ own-test (g .x .units) (s .pre .angle .top) (f .further .result) _ (next f) (few f) (g .m) (g .a) (g .upper)
-    ∙ ap (λ (n : ℕ). endAt (g .upper) (oneMean (g .m) (g .a)) n (g .x .units)) (sym (pairs-is f))
+    let g = f .before .before .before .before .before .before .args in
+    c .at-depth .ensures
+    ∙ ap₂ (λ (p q : Corner). atDepth (g .upper) p q (f .further .result)) (f .before .before .before .before .corner-at .ensures) (f .before .before .before .corner-at2 .ensures)
 
 cast-pairs : tie.Need-cast-pairs Inv-loop μ-loop
 cast-pairs c = search needs
@@ -90,44 +84,37 @@ further-requires : tie.Need-further-requires Inv-loop μ-loop
 further-requires c κs =
     let p = c .before .before .before .before .before .pre in unfinished _ _ _ (c .loop .inv .0) (p .angle .top) (omega (arith, c .loop .inv .1, p .depth .few))
 
-accepts-requires : tie.Need-accepts-requires Inv-loop μ-loop
-accepts-requires c κs = corners-in c
+at-depth-requires : tie.Need-at-depth-requires Inv-loop μ-loop
+at-depth-requires c κs = corners-in c
 
 returns : tie.Need-returns Inv-loop μ-loop
 returns c =
     let f = c .before .before in
-    let g = f .before .before .before .before .before .before .args in
-    let k = pairs-is f in
-    passes _
-    (deeper (g .upper) (oneMean (g .m) (g .a)) (g .x .units) (omega (arith, f .before .loop .inv .1))
-    (passed _ (sym (c .if1 .taken) ∙ own (c .before))))
+    let s = f .before .before .before .before .before .before in
+    let g = s .args in
+    let e = corners-say (c .before) in
+    ap (λ (t : AtDepth). t .accepts) e
+    ∙ settles-on (g .x .units) (s .pre .angle .top) (f .further .result) _ (next f) (few f) (g .m) (g .a) (g .upper)
+    (sym (ap (λ (t : AtDepth). t .settles) e) ∙ c .if1 .taken) (g .depth .pairs) (omega (arith, f .before .loop .inv .1)) (s .pre .depth .few)
 
 returns-2 : tie.Need-returns-2 Inv-loop μ-loop
 returns-2 c =
     let e = c .before .before in
-    let g = e .before .before .before .before .before .before .before .before .args in
-    sym (e .if1 .left) ∙ own (e .before) ∙ ap (λ (n : ℕ). endAt (g .upper) (oneMean (g .m) (g .a)) n (g .x .units)) (c .if2 .taken)
-
-hopeless-requires : tie.Need-hopeless-requires Inv-loop μ-loop
-hopeless-requires c κs = corners-in (c .before .before .before .before) .0
-
-returns-3 : tie.Need-returns-3 Inv-loop μ-loop
-returns-3 c =
-    let f = c .before .before .before .before .before .before in
+    let f = e .before .before in
     let s = f .before .before .before .before .before .before in
     let g = s .args in
-    let e = ap (λ (p : Corner). not (testBy (g .upper) p (ownBound (not (g .upper)) (f .further .result)))) (f .before .before .before .before .corner-at .ensures) in
-    other-test (g .x .units) (s .pre .angle .top) (f .further .result) _ (next f) (few f) (g .m) (g .a) (g .upper)
-    (not-true _ (sym (c .before .hopeless .ensures ∙ e) ∙ c .if3 .taken)) (g .depth .pairs) (s .pre .depth .few)
+    goes-on (g .x .units) (s .pre .angle .top) (f .further .result) _ (next f) (few f) (g .m) (g .a) (g .upper)
+    (sym (ap (λ (t : AtDepth). t .settles) (corners-say (e .before))) ∙ e .if1 .left)
+    ∙ ap (λ (n : ℕ). endAt (g .upper) (oneMean (g .m) (g .a)) n (g .x .units)) (sym (pairs-is f) ∙ c .if2 .taken)
 
 loop-less : tie.Need-loop-less Inv-loop μ-loop
-loop-less c = let f = c .before .before .before .before .before .before in let k = pairs-is f in omega (arith, f .before .loop .inv .1)
+loop-less c = let f = c .before .before .before .before in let k = pairs-is f in omega (arith, f .before .loop .inv .1)
 
 loop-again : tie.Need-loop-again Inv-loop μ-loop
 loop-again c =
-    let f = c .before .before .before .before .before .before in
+    let f = c .before .before .before .before in
     let k = pairs-is f in
-    (own-pairs _ _ _ (next f), omega (arith, f .before .loop .inv .1, c .before .before .if2 .left))
+    (own-pairs _ _ _ (next f), omega (arith, f .before .loop .inv .1, c .if2 .left))
 
 pub settle-spec : {M : Type 1} → statement M
 settle-spec =
@@ -141,10 +128,8 @@ settle-spec =
     begin-requires
     loop-holds
     further-requires
-    accepts-requires
+    at-depth-requires
     returns
     returns-2
-    hopeless-requires
-    returns-3
     loop-less
     loop-again)
