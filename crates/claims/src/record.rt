@@ -53,7 +53,7 @@ fn judge_at(form: Form, claims: &[u8], start: usize) -> Judged
     requires { ⌜ start + form .width ≤ length (now claims) ⌝ }
     ensures { λ r. ⌜ r ≡ judgeRule (claimFrom form (now (claims .entry)) start) ⌝ }
 {
-    let m = word_of(claims, start, form.m);
+    let m = little::signed_word(word_of(claims, start, form.m));
     let a = word_of(claims, start, form.a);
     let estimate = double(value_of(claims, start, form.estimate));
     let n = word_of(claims, start, form.n);

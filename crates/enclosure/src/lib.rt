@@ -12,12 +12,12 @@ use grid::Angle;
 use grid::codes;
 use orbit::Problem;
 
-// A code, and with code 0 the lower end a and the upper end b, in units.
+// A code, and with code 0 the two ends, in units.
 #[repr(C)]
 pub struct Enclosure {
     pub code: u32,
-    pub a: u32,
-    pub b: u32,
+    pub lower: i32,
+    pub upper: i32,
 }
 
 // Where a search stands.
@@ -60,11 +60,37 @@ fn last_bracket(problem: Problem, upper: bool) -> Bracket
 fn refused(code: u32) -> Enclosure
     ensures { λ r. ⌜ r ≡ refusal code ⌝ }
 {
-    Enclosure { code, a: 0, b: 0 }
+    Enclosure {
+        code,
+        lower: 0,
+        upper: 0,
+    }
+}
+
+// R59: the ends a and b that were found, or on the mirror -b and -a.
+fn between(a: u32, b: u32, mirrored: bool) -> Enclosure
+    requires { ⌜ EndsIn a b ⌝ }
+    ensures { λ r. ⌜ r ≡ mirrorEnds mirrored (ends a b) ⌝ }
+{
+    let lower = a as i32;
+    let upper = b as i32;
+    if mirrored {
+        Enclosure {
+            code: codes::DONE,
+            lower: 0 - upper,
+            upper: 0 - lower,
+        }
+    } else {
+        Enclosure {
+            code: codes::DONE,
+            lower,
+            upper,
+        }
+    }
 }
 
 // Both searches, of a problem within its limits; code 6 where T is not accepted as an upper end.
-fn enclose_problem(problem: Problem) -> Enclosure
+fn enclose_problem(problem: Problem, mirrored: bool) -> Enclosure
     requires { ⌜ ProblemIn problem ⌝ }
     ensures { λ r. ⌜ r ≡ checked (T-check (problem .cell) (problem .depth .pairs) ∷ []) refusal (enclosed (problem .cell) (problem .depth .pairs)) ⌝ }
 {
@@ -73,22 +99,14 @@ fn enclose_problem(problem: Problem) -> Enclosure
     }
     let lower = last_bracket(problem, false);
     if ends::upper(problem, Angle { units: 0 }) {
-        return Enclosure {
-            code: codes::DONE,
-            a: lower.p,
-            b: 0,
-        };
+        return between(lower.p, 0, mirrored);
     }
     let upper = last_bracket(problem, true);
-    Enclosure {
-        code: codes::DONE,
-        a: lower.p,
-        b: upper.q,
-    }
+    between(lower.p, upper.q, mirrored)
 }
 
 // The enclosure of M and A at a depth, or the code of what is out of limits: 1, 2, 3, then 6.
-pub fn enclose(m: u32, a: u32, depth: u32) -> Enclosure
+pub fn enclose(m: i32, a: u32, depth: u32) -> Enclosure
     ensures { λ r. ⌜ r ≡ enclosureRule (grid m a) depth ⌝ }
 {
     let posed = Problem::new(m, a, depth);
@@ -96,5 +114,5 @@ pub fn enclose(m: u32, a: u32, depth: u32) -> Enclosure
         return refused(posed.code);
     }
     let problem = posed.problem;
-    enclose_problem(problem)
+    enclose_problem(problem, posed.mirrored)
 }

@@ -14,9 +14,8 @@ use Rattle.series.proofs.Rise.{sine-rises}
 use Rattle.orbit.specs.Cell.{Orbit, orbitAt, CellIn}
 use Rattle.orbit.specs.declared.Cell.{Cell}
 use Rattle.ends.specs.Ends.{lowerEnd, upperEnd}
-use Rattle.ends.specs.Exact.{LowerExact, UpperExact}
 use Rattle.ends.proofs.BothEnds.{Spares}
-use Rattle.ends.proofs.InNaturals.{lower-exact, upper-exact}
+use Rattle.ends.proofs.InNaturals.{LowerExact, UpperExact, lower-exact, upper-exact}
 use Rattle.ends.proofs.Corners.{below-corners, above-corners, lesser-mean}
 use Rattle.ends.proofs.Exact.{below-true, above-true}
 

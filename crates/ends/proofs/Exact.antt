@@ -1,9 +1,11 @@
 -- R19 and R20: what acceptance says, and what refusal says at depth 5. Assumes nothing.
+use mathlib.Core.Bool.{Bool, true, false, not}
 use Prim.Native.Nat.{ℕ, _+_, _*_, _≤_}
 use native.Mathlib.Omega.{arith}
 use native.Mathlib.Nat.{mul-le-mul-right}
 use lib.Dec.{T}
-use Rattle.whole.proofs.Parts.{plus, minus, own, is-pos, is-add, is-mul-right}
+use lib.IntN.{pos}
+use Rattle.whole.proofs.Parts.{plus, minus, own, is-pos, is-add, is-mul, is-mul-right}
 use Rattle.whole.proofs.Order.{le-parts}
 use Rattle.grid.specs.Grid.{one, T-units, depths}
 use Rattle.series.specs.Sine.{sine, Lo, Hi, den9, den10}
@@ -14,12 +16,11 @@ use Rattle.series.proofs.BoundsTrue.{Lo-true, Hi-true}
 use Rattle.series.proofs.Width.{width-5}
 use Rattle.series.proofs.Next.{drop-last, add-last, S9-parts, S10-parts}
 use Rattle.orbit.specs.Cell.{Orbit, orbitAt, gridCell}
-use Rattle.orbit.specs.Given.{Given, grid, cellOf, exactOf}
-use Rattle.ends.specs.Ends.{belowAt, aboveAt, lowerEnd, upperEnd}
-use Rattle.ends.specs.Exact.{LowerExact, UpperExact, LowerSpare, UpperSpare}
+use Rattle.ends.specs.Ends.{belowAt, aboveAt, endAt}
+use Rattle.ends.specs.Exact.{Meets, Spare, sumOf}
 use Rattle.ends.proofs.BothEnds.{accept, refuse}
 use Rattle.ends.proofs.Corners.{below-corners, above-corners}
-use Rattle.ends.proofs.InNaturals.{below-test, above-test, lower-exact, upper-exact, lower-spares, upper-spares}
+use Rattle.ends.proofs.InNaturals.{LowerExact, UpperExact, LowerSpare, UpperSpare, posed, scaled, below-test, above-test, lower-exact, upper-exact, lower-spares, upper-spares}
 
 -- ---- the sine bounds by naturals
 
@@ -48,7 +49,7 @@ module _ (X : ℕ) (within : X ≤ T-units) where
   -- S_10 lies at most 32 below Hi: it is above S_9, so above Lo
   high-near : other sine X 10 + plus (Hi X depths) * den10 ≤ same sine X 10 + minus (Hi X depths) * den10 + 32 * den10
   high-near =
-      let h = add-last sine X 9 (plus (Lo X depths)) (minus (Lo X depths)) (low-truth depths (omega arith)) in
+      let h = add-last sine X 9 1 (plus (Lo X depths)) (minus (Lo X depths)) (let t = low-truth depths (omega arith) in omega arith) in
       omega (arith, mul-le-mul-right den10 narrow)
 
 -- ---- of one M and one A
@@ -82,20 +83,30 @@ module _ (o : Orbit) (X : ℕ) (within : X ≤ T-units) where
       (refuse (one * o .m) (one * X) (o .a) 32 den10 (other sine X 10) (same sine X 10) (minus (Hi X depths)) (plus (Hi X depths))
       (den-pos sine sine-divides 10) (high-near X within) (upper-spares o X s))
 
--- ---- of what is given
+-- ---- of either end
 
--- R19
-pub lower-true : (g : Given) (X : ℕ) → X ≤ T-units → (d : ℕ) → d ≤ depths → T (lowerEnd (cellOf g) d X) → LowerExact (exactOf g) X
-lower-true (grid m a) X w d j t = below-true (orbitAt m a) X w d j (below-corners (gridCell m a) X (Lo X d) .0 t .0)
+-- R19: at any depth
+pub corner-true : (upper : Bool) (m a X : ℕ) → X ≤ T-units → (d : ℕ) → d ≤ depths → T (endAt upper (gridCell m a) d X)
+    → Meets upper (sumOf upper) (posed (orbitAt m a)) (pos X)
+corner-true true m a X w d j t = above-true (orbitAt m a) X w d j (above-corners (gridCell m a) X (Hi X d) .0 t .0)
+corner-true false m a X w d j t = below-true (orbitAt m a) X w d j (below-corners (gridCell m a) X (Lo X d) .0 t .0)
 
-pub upper-true : (g : Given) (X : ℕ) → X ≤ T-units → (d : ℕ) → d ≤ depths → T (upperEnd (cellOf g) d X) → UpperExact (exactOf g) X
-upper-true (grid m a) X w d j t = above-true (orbitAt m a) X w d j (above-corners (gridCell m a) X (Hi X d) .0 t .0)
+-- S_9 lies below S_10: the inequality with the other end's sum
+pub other-sum : (upper : Bool) (m a X : ℕ) → Meets upper (sumOf upper) (posed (orbitAt m a)) (pos X)
+    → Meets upper (sumOf (not upper)) (posed (orbitAt m a)) (pos X)
+other-sum true m a X h =
+    let k = upper-exact (orbitAt m a) X .0 h in
+    let l = drop-last sine sine-divides X 9 a (one * X) (one * m) (omega arith) in
+    le-parts (is-mul a (S9-parts X)) (scaled (one * den9) X m) .1 (omega arith)
+other-sum false m a X h =
+    let k = lower-exact (orbitAt m a) X .0 h in
+    let l = add-last sine X 9 a (one * X) (one * m) (omega arith) in
+    le-parts (scaled (one * den10) X m) (is-mul a (S10-parts X)) .1 (omega arith)
 
--- R20, on the grid
-pub lower-spare : (m a X : ℕ) → X ≤ T-units → LowerSpare (orbitAt m a) X → T (lowerEnd (gridCell m a) depths X)
-lower-spare m a X w s =
-    let t = below-spare (orbitAt m a) X w s in below-corners (gridCell m a) X (Lo X depths) .1 (t, t)
-
-pub upper-spare : (m a X : ℕ) → X ≤ T-units → UpperSpare (orbitAt m a) X → T (upperEnd (gridCell m a) depths X)
-upper-spare m a X w s =
+-- R20, at depth 5
+pub corner-spare : (upper : Bool) (m a X : ℕ) → X ≤ T-units → Spare upper (sumOf upper) (posed (orbitAt m a)) (pos X)
+    → T (endAt upper (gridCell m a) depths X)
+corner-spare true m a X w s =
     let t = above-spare (orbitAt m a) X w s in above-corners (gridCell m a) X (Hi X depths) .1 (t, t)
+corner-spare false m a X w s =
+    let t = below-spare (orbitAt m a) X w s in below-corners (gridCell m a) X (Lo X depths) .1 (t, t)

@@ -1,4 +1,6 @@
--- The end tests and the exact inequalities by naturals: the signed numbers go here, once. Assumes nothing.
+-- The end tests and the exact inequalities of one M, not below 0, and one A, by naturals: the signed numbers go here, once.
+-- Assumes nothing.
+use mathlib.Core.Bool.{true, false}
 use mathlib.Core.Logic.{_↔_}
 use Prim.Native.Nat.{ℕ, _+_, _*_}
 use native.Mathlib.Omega.{arith}
@@ -10,14 +12,31 @@ use Rattle.grid.specs.Grid.{one}
 use Rattle.series.specs.Sine.{sine, den9, den10}
 use Rattle.series.proofs.Sums.{same, other}
 use Rattle.series.proofs.Next.{S9-parts, S10-parts}
-use Rattle.orbit.specs.Cell.{Orbit}
+use Rattle.orbit.specs.Cell.{Orbit, Exact}
 use Rattle.ends.specs.Ends.{belowAt, aboveAt}
-use Rattle.ends.specs.Exact.{LowerExact, UpperExact, LowerSpare, UpperSpare}
+use Rattle.ends.specs.Exact.{AtMost, AtLeast, AtMostSpare, AtLeastSpare, sumOf}
 use Rattle.ends.proofs.BothEnds.{Accepts, Spares}
 
 -- k (x - m)
-scaled : (k x m : ℕ) → Is (pos k *ℤ (pos x -ℤ pos m)) (k * (x + 0)) (k * (0 + m))
+pub scaled : (k x m : ℕ) → Is (pos k *ℤ (pos x -ℤ pos m)) (k * (x + 0)) (k * (0 + m))
 scaled k x m = is-mul k (is-minus (is-pos x) (is-pos m))
+
+-- the corner as a problem that is given
+abbrev pub posed : Orbit → Exact
+posed o = record { m = pos (o .m); a = o .a }
+
+-- R19 and R20 of it
+abbrev pub LowerExact : Orbit → ℕ → Type 0
+LowerExact o X = AtMost (sumOf false) (posed o) (pos X)
+
+abbrev pub UpperExact : Orbit → ℕ → Type 0
+UpperExact o X = AtLeast (sumOf true) (posed o) (pos X)
+
+abbrev pub LowerSpare : Orbit → ℕ → Type 0
+LowerSpare o X = AtMostSpare (sumOf false) (posed o) (pos X)
+
+abbrev pub UpperSpare : Orbit → ℕ → Type 0
+UpperSpare o X = AtLeastSpare (sumOf true) (posed o) (pos X)
 
 module _ (o : Orbit) (X : ℕ) where
   pub below-test : (b : ℤ) → T (belowAt o X b) ↔ Accepts (one * X) (one * o .m) (o .a) (plus b) (minus b)

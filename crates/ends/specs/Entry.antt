@@ -2,14 +2,16 @@
 use Prim.Native.Nat.{ℕ}
 use mathlib.Core.Bool.{Bool, true, false}
 use mathlib.Core.List.{List, [], _∷_, _++_}
-use Rattle.grid.specs.Codes.{Check, number, done, checked, x-check}
-use Rattle.orbit.specs.Given.{Given, cellOf, problemChecks}
+use lib.IntN.{ℤ, natAbs}
+use Rattle.grid.specs.Codes.{Check, number, done, checked, signed-x-check}
+use Rattle.orbit.specs.Mirror.{mirror, mirrorEnd}
+use Rattle.orbit.specs.Given.{Given, mirroredOf, cellOf, problemChecks}
 use Rattle.ends.specs.Ends.{endAt}
 use Rattle.ends.specs.declared.End.{End}
 
--- R24: codes 1, 2, 3 and 10 in that order
-abbrev pub endChecks : ℕ → Given → ℕ → List Check
-endChecks x g d = problemChecks g d ++ x-check x ∷ []
+-- R24: codes 1, 2, 3 and 10 in that order; R59: on the mirror it is -X that is from 0 to T
+abbrev pub endChecks : ℤ → Given → ℕ → List Check
+endChecks x g d = problemChecks g d ++ signed-x-check (mirror (mirroredOf g) x) ∷ []
 
 -- R7: a zero beside a code
 abbrev pub endRefused : ℕ → End
@@ -20,14 +22,18 @@ abbrev pub flagged : Bool → End
 flagged true = record { code = number done; accepted = 1 }
 flagged false = record { code = number done; accepted = 0 }
 
+-- R24: the test of an upper end, `true`, or of a lower one; R59: on the mirror the other end's, at -X
+abbrev pub endOf : Bool → Given → ℕ → ℤ → Bool
+endOf upper g d x = endAt (mirrorEnd (mirroredOf g) upper) (cellOf g) d (natAbs x)
+
 -- R24: either entry, by its side
-abbrev pub endRule : Bool → ℕ → Given → ℕ → End
-endRule upper x g d = checked (endChecks x g d) endRefused (flagged (endAt upper (cellOf g) d x))
+abbrev pub endRule : Bool → ℤ → Given → ℕ → End
+endRule upper x g d = checked (endChecks x g d) endRefused (flagged (endOf upper g d x))
 
 -- R24: the entry `lower_end`
-abbrev pub lowerRule : ℕ → Given → ℕ → End
+abbrev pub lowerRule : ℤ → Given → ℕ → End
 lowerRule = endRule false
 
 -- R24: the entry `upper_end`
-abbrev pub upperRule : ℕ → Given → ℕ → End
+abbrev pub upperRule : ℤ → Given → ℕ → End
 upperRule = endRule true

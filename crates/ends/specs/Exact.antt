@@ -1,25 +1,64 @@
 -- What acceptance and refusal of an end say of the exact sums, R19 and R20.
--- In units, X - M against e · 2^28 S_n(X), where e is A / 2^28 and 2^28 S_9(X) is S9 X / den9, 2^28 S_10(X) is S10 X / den10;
--- multiplied out by 2^28 · den. A spare of w · e units is w · A · den then.
-use Prim.Native.Nat.{ℕ, _*_}
-use lib.IntN.{pos, _+ℤ_, _-ℤ_, _*ℤ_}
+-- In units, X - M against e · 2^28 S_n(X), where e is A / 2^28 and 2^28 S_n(X) is a whole number over its denominator; multiplied
+-- out by 2^28 times that. A spare of w · e units is w · A times the denominator then.
+use Prim.Native.Nat.{ℕ, suc, _*_}
+use mathlib.Core.Bool.{Bool, true, false}
+use lib.IntN.{ℤ, pos, negsuc, negℤ, _+ℤ_, _-ℤ_, _*ℤ_}
 use lib.Signed.{_≤ℤ_}
+use Rattle.whole.specs.Sign.{negative}
 use Rattle.grid.specs.Grid.{one}
 use Rattle.series.specs.Sine.{S9, S10, den9, den10}
-use Rattle.orbit.specs.Cell.{Orbit}
+use Rattle.orbit.specs.Cell.{Exact}
+use Rattle.orbit.specs.Mirror.{mirrorEnd}
 
--- R19: X - M is at most e S_9(X), as an accepted lower end says
-abbrev pub LowerExact : Orbit → ℕ → Type 0
-LowerExact o X = (pos (one * den9) *ℤ (pos X -ℤ pos (o .m))) ≤ℤ (pos (o .a) *ℤ S9 X)
+-- R8: one of the sums, over its denominator
+pub record Sum : Type 0 where
+  pub at : ℕ → ℤ
+  pub den : ℕ
 
--- R19: X - M is at least e S_10(X), as an accepted upper end says
-abbrev pub UpperExact : Orbit → ℕ → Type 0
-UpperExact o X = (pos (o .a) *ℤ S10 X) ≤ℤ (pos (one * den10) *ℤ (pos X -ℤ pos (o .m)))
+-- R8, R59: a sum at an X with its sign: it is odd
+abbrev pub oddly : (ℕ → ℤ) → ℤ → ℤ
+oddly S (pos X) = S X
+oddly S (negsuc X) = negℤ (S (suc X))
 
--- R20: LowerExact with 32 e units to spare: there depth 5 accepts
-abbrev pub LowerSpare : Orbit → ℕ → Type 0
-LowerSpare o X = (pos (one * den9) *ℤ (pos X -ℤ pos (o .m)) +ℤ pos (32 * o .a * den9)) ≤ℤ (pos (o .a) *ℤ S9 X)
+-- R19: X - M is at most e S(X)
+abbrev pub AtMost : Sum → Exact → ℤ → Type 0
+AtMost s o X = (pos (one * s .den) *ℤ (X -ℤ o .m)) ≤ℤ (pos (o .a) *ℤ oddly (s .at) X)
 
--- R20: UpperExact with 32 e units to spare: there depth 5 accepts
-abbrev pub UpperSpare : Orbit → ℕ → Type 0
-UpperSpare o X = (pos (o .a) *ℤ S10 X +ℤ pos (32 * o .a * den10)) ≤ℤ (pos (one * den10) *ℤ (pos X -ℤ pos (o .m)))
+-- R19: X - M is at least e S(X)
+abbrev pub AtLeast : Sum → Exact → ℤ → Type 0
+AtLeast s o X = (pos (o .a) *ℤ oddly (s .at) X) ≤ℤ (pos (one * s .den) *ℤ (X -ℤ o .m))
+
+-- R20: the same with 32 e units to spare
+abbrev pub AtMostSpare : Sum → Exact → ℤ → Type 0
+AtMostSpare s o X = (pos (one * s .den) *ℤ (X -ℤ o .m) +ℤ pos (32 * o .a * s .den)) ≤ℤ (pos (o .a) *ℤ oddly (s .at) X)
+
+abbrev pub AtLeastSpare : Sum → Exact → ℤ → Type 0
+AtLeastSpare s o X = (pos (o .a) *ℤ oddly (s .at) X +ℤ pos (32 * o .a * s .den)) ≤ℤ (pos (one * s .den) *ℤ (X -ℤ o .m))
+
+-- R19, R20: of an upper end, `true`, or of a lower one
+abbrev pub Meets : Bool → Sum → Exact → ℤ → Type 0
+Meets true = AtLeast
+Meets false = AtMost
+
+abbrev pub Spare : Bool → Sum → Exact → ℤ → Type 0
+Spare true = AtLeastSpare
+Spare false = AtMostSpare
+
+-- R19: S_10 for an upper end, S_9 for a lower one
+abbrev pub sumOf : Bool → Sum
+sumOf true = record { at = S10; den = den10 }
+sumOf false = record { at = S9; den = den9 }
+
+-- R19, R59: the sum behind the test of an end: where M is negative the ends change places, and so do the sums
+abbrev pub ownSum : Bool → Exact → Sum
+ownSum upper o = sumOf (mirrorEnd (negative (o .m)) upper)
+
+-- R19: what an accepted end says: the inequality with its own sum, and the demand's, which for a negative M is the weaker
+pub record EndExact (upper : Bool) (o : Exact) (X : ℤ) : Type 0 where
+  pub own : Meets upper (ownSum upper o) o X
+  pub letter : Meets upper (sumOf upper) o X
+
+-- R20: the inequality with its own sum and 32 e units to spare: there depth 5 accepts
+abbrev pub EndSpare : Bool → Exact → ℤ → Type 0
+EndSpare upper o X = Spare upper (ownSum upper o) o X

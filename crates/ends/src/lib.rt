@@ -171,30 +171,31 @@ fn flag(accepted: bool) -> End
     }
 }
 
-// The end test of plain numbers, of an upper end or of a lower one.
-fn end_test(x: u32, m: u32, a: u32, depth: u32, upper: bool) -> End
+// The end test of plain numbers, of an upper end or of a lower one. On the mirror x is mirrored, and the other end is tested.
+fn end_test(x: i32, m: i32, a: u32, depth: u32, upper: bool) -> End
     ensures { λ r. ⌜ r ≡ endRule upper x (grid m a) depth ⌝ }
 {
     let posed = Problem::new(m, a, depth);
-    let made = Angle::new(x);
+    let mirrored = posed.mirrored;
+    let made = Angle::of_signed(orbit::mirror(x as i64, mirrored));
     let code = codes::earlier(posed.code, made.code);
     if code != codes::DONE {
         return End { code, accepted: 0 };
     }
     let problem = posed.problem;
     let angle = made.angle;
-    flag(accepted(problem, angle, upper))
+    flag(accepted(problem, angle, orbit::mirror_end(upper, mirrored)))
 }
 
 // Whether x is an accepted lower end, or the code of what is out of limits: 1, 2, 3, then 10.
-pub fn lower_end(x: u32, m: u32, a: u32, depth: u32) -> End
+pub fn lower_end(x: i32, m: i32, a: u32, depth: u32) -> End
     ensures { λ r. ⌜ r ≡ lowerRule x (grid m a) depth ⌝ }
 {
     end_test(x, m, a, depth, false)
 }
 
 // Whether x is an accepted upper end, or the code of what is out of limits: 1, 2, 3, then 10.
-pub fn upper_end(x: u32, m: u32, a: u32, depth: u32) -> End
+pub fn upper_end(x: i32, m: i32, a: u32, depth: u32) -> End
     ensures { λ r. ⌜ r ≡ upperRule x (grid m a) depth ⌝ }
 {
     end_test(x, m, a, depth, true)

@@ -50,9 +50,9 @@ passed (c ∷ cs) t n e z =
     step true p some rest h = absurd (let w : ⊥ = omega arith in w)
     step false p some rest h = (p, rest h)
 
--- checks one after the other
-pub in-turn : (cs ds : List Check) → T (coded cs) → (j k : ℕ) → CodeOf cs j → CodeOf ds k → CodeOf (cs ++ ds) (earlier j k)
-in-turn [] ds t j k e f = rw e f
+-- checks one after the other: the second code counts where the first is 0
+pub in-turn : (cs ds : List Check) → T (coded cs) → (j k : ℕ) → CodeOf cs j → (j ≡ 0 → CodeOf ds k) → CodeOf (cs ++ ds) (earlier j k)
+in-turn [] ds t j k e f = rw e (f e)
 in-turn (c ∷ cs) ds t j k e f =
     let (some, named) = both-parts (ltb 0 (number (c .code))) (coded cs) t in
     step (c .fails) (ltb→lt 0 (number (c .code)) some) (λ h. in-turn cs ds named j k h f) e

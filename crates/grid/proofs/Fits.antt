@@ -3,8 +3,10 @@ use mathlib.Core.Path.{_≡_, refl}
 use mathlib.Core.Bool.{Bool, true, false}
 use Prim.Native.Nat.{ℕ, _≤_}
 use borrow.Author.Tests.{ltb-false, le-ltb}
-use Rattle.grid.specs.Grid.{depths}
-use Rattle.grid.specs.Codes.{Code, or, limit-check, depth-check}
+use lib.IntN.{ℤ, natAbs}
+use Rattle.whole.specs.Sign.{negative}
+use Rattle.grid.specs.Grid.{T-units, depths}
+use Rattle.grid.specs.Codes.{Code, or, limit-check, depth-check, signed-x-check}
 use Rattle.grid.specs.Limits.{DepthIn}
 
 pub limit-fits : (n limit : ℕ) (k : Code) → limit-check n limit k .fails ≡ false → n ≤ limit
@@ -19,3 +21,7 @@ depth-fits d e = let w = neither _ _ e in record { some = ltb-false d 1 (w .0); 
 
 pub depth-passes : (d : ℕ) → 1 ≤ d → d ≤ depths → depth-check d .fails ≡ false
 depth-passes d some few = simp (le-ltb d 1 some, le-ltb depths d few)
+
+-- a number with its sign that is an angle
+pub signed-fits : (z : ℤ) → signed-x-check z .fails ≡ false → (negative z ≡ false) × (natAbs z ≤ T-units)
+signed-fits z e = let w = neither _ _ e in (w .0, ltb-false T-units (natAbs z) (w .1))

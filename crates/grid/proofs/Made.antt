@@ -2,7 +2,8 @@
 use mathlib.Core.Path.{refl}
 use mathlib.Core.List.{[], _∷_}
 use Prim.Native.Nat.{ℕ}
-use Rattle.grid.specs.Codes.{bad-x, Passed, x-check, a-check, depth-check}
+use lib.IntN.{ℤ, natAbs}
+use Rattle.grid.specs.Codes.{bad-x, Passed, x-check, signed-x-check, a-check, depth-check}
 use Rattle.grid.specs.Grid.{T-units}
 use Rattle.grid.specs.Limits.{AngleIn}
 use Rattle.grid.specs.Make.{angleWith, eccentricityWith, depthWith}
@@ -14,6 +15,10 @@ use Rattle.grid.proofs.Refuses.{Makes, makes}
 
 pub angles : (x : ℕ) → Makes (x-check x ∷ []) (λ (r : CodedAngle). r .code) (λ k. angleWith k 0) (angleWith 0 x)
 angles x = makes refl (λ k. refl) tt
+
+pub signed-angles : (x : ℤ)
+    → Makes (signed-x-check x ∷ []) (λ (r : CodedAngle). r .code) (λ k. angleWith k 0) (angleWith 0 (natAbs x))
+signed-angles x = makes refl (λ k. refl) tt
 
 pub eccentricities : (a : ℕ)
     → Makes (a-check a ∷ []) (λ (r : CodedEccentricity). r .code) (λ k. eccentricityWith k 0) (eccentricityWith 0 a)

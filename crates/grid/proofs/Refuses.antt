@@ -113,13 +113,13 @@ pub limits : (n limit : ℕ) (k : Code) → T (coded (limit-check n limit k ∷ 
     → Makes (limit-check n limit k ∷ []) (λ (r : ℕ). r) (λ r. r) 0
 limits n limit k t = makes refl (λ r. refl) t
 
--- checks one after the other
-pub then : {cs ds : List Check} {j k : ℕ} {Left Right : Type 0} → T (coded cs) → Says cs j Left → Says ds k Right
+-- checks one after the other: what the second says counts where the first had no code
+pub then : {cs ds : List Check} {j k : ℕ} {Left Right : Type 0} → T (coded cs) → Says cs j Left → (j ≡ 0 → Says ds k Right)
     → (n : ℕ) → n ≡ earlier j k → Says (cs ++ ds) n (Left × Right)
 then {cs} {ds} {j} {k} t s r n e =
     record {
-      code-is = e ∙ in-turn cs ds t j k (s .code-is) (r .code-is);
-      made = λ z. let w = neither-code j k (sym e ∙ z) in (s .made (w .0), r .made (w .1));
+      code-is = e ∙ in-turn cs ds t j k (s .code-is) (λ z. r z .code-is);
+      made = λ z. let w = neither-code j k (sym e ∙ z) in (s .made (w .0), r (w .0) .made (w .1));
     }
 
 -- a function of an answer is an answer with that function of each refusal, and of what is given

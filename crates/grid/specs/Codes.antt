@@ -4,6 +4,8 @@ use mathlib.Core.Path.{_≡_}
 use mathlib.Core.Bool.{Bool, true, false, cond}
 use mathlib.Core.List.{List, [], _∷_}
 use lib.Dec.{ltb, eqb}
+use lib.IntN.{ℤ, natAbs}
+use Rattle.whole.specs.Sign.{negative}
 use Rattle.grid.specs.Grid.{one, H-units, T-units, depths, N-units}
 
 -- R5: what a code says, in the order of the numbers
@@ -45,9 +47,9 @@ or false b = b
 abbrev pub limit-check : ℕ → ℕ → Code → Check
 limit-check n limit code = record { fails = ltb limit n; code = code }
 
--- R5: code 1, M beyond H
-abbrev pub m-check : ℕ → Check
-m-check m = limit-check m H-units bad-m
+-- R5: code 1, M of a size beyond H
+abbrev pub m-check : ℤ → Check
+m-check m = limit-check (natAbs m) H-units bad-m
 
 -- R5: code 2, e beyond 1
 abbrev pub a-check : ℕ → Check
@@ -60,6 +62,10 @@ depth-check d = record { fails = or (ltb d 1) (ltb depths d); code = bad-depth }
 -- R5: code 10, an angle beyond T
 abbrev pub x-check : ℕ → Check
 x-check x = limit-check x T-units bad-x
+
+-- R5: code 10, of a number that has a sign: below 0, or beyond T
+abbrev pub signed-x-check : ℤ → Check
+signed-x-check x = record { fails = or (negative x) (ltb T-units (natAbs x)); code = bad-x }
 
 -- R5: code 5, a tolerance beyond its limit
 abbrev pub n-check : ℕ → Check

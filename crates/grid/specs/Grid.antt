@@ -5,11 +5,11 @@ use Prim.Native.Nat.{ℕ}
 abbrev pub one : ℕ
 one = 268435456
 
--- R3: H, the greatest M; the least is 0
+-- R3: H, the greatest size of M
 abbrev pub H-units : ℕ
 H-units = 843314856
 
--- R3: T, the greatest X, 64 units above H
+-- R3: T, the greatest size of X, 64 units above H
 abbrev pub T-units : ℕ
 T-units = 843314920
 

@@ -1,7 +1,8 @@
 -- The checked ways to make an angle, an eccentricity and a depth, R4: the value, or its code. R7: zeros beside a code.
 use Prim.Native.Nat.{ℕ}
 use mathlib.Core.List.{[], _∷_}
-use Rattle.grid.specs.Codes.{number, done, checked, x-check, a-check, depth-check}
+use lib.IntN.{ℤ, natAbs}
+use Rattle.grid.specs.Codes.{number, done, checked, x-check, signed-x-check, a-check, depth-check}
 use Rattle.grid.specs.declared.CodedAngle.{CodedAngle}
 use Rattle.grid.specs.declared.CodedEccentricity.{CodedEccentricity}
 use Rattle.grid.specs.declared.CodedDepth.{CodedDepth}
@@ -13,6 +14,10 @@ angleWith code x = record { code = code; angle = record { units = x } }
 -- R4: code 10, or the angle
 abbrev pub codedAngle : ℕ → CodedAngle
 codedAngle x = checked (x-check x ∷ []) (λ k. angleWith k 0) (angleWith (number done) x)
+
+-- R4: the same of a number that has a sign
+abbrev pub codedSigned : ℤ → CodedAngle
+codedSigned x = checked (signed-x-check x ∷ []) (λ k. angleWith k 0) (angleWith (number done) (natAbs x))
 
 -- R4: a code and an eccentricity
 abbrev pub eccentricityWith : ℕ → ℕ → CodedEccentricity

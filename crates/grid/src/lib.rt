@@ -2,7 +2,7 @@
 ghost use mathlib.Core.Path.{_≡_};
 ghost use Prim.Native.Nat.{_+_, _-_, min};
 ghost use Rattle.grid.specs.Grid.{T-units};
-ghost use Rattle.grid.specs.Make.{codedAngle, codedEccentricity, codedDepth};
+ghost use Rattle.grid.specs.Make.{codedAngle, codedSigned, codedEccentricity, codedDepth};
 
 pub mod codes;
 
@@ -18,7 +18,7 @@ pub struct CodedAngle {
 }
 
 impl Angle {
-    // The largest mean anomaly, the whole part of pi times 2^28.
+    // The largest size of a mean anomaly, the whole part of pi times 2^28.
     pub const H: u32 = 843_314_856;
     // The largest angle tested, H + 64.
     pub const T: u32 = 843_314_920;
@@ -38,6 +38,25 @@ impl Angle {
                 code: codes::BAD_X,
                 angle: Angle { units: 0 },
             }
+        }
+    }
+
+    // Of a number that may be below 0, where no angle is.
+    pub fn of_signed(z: i64) -> CodedAngle
+        ensures { λ r. ⌜ r ≡ codedSigned z ⌝ }
+    {
+        if 0 <= z {
+            let units = z as u64;
+            if units <= T {
+                return CodedAngle {
+                    code: codes::DONE,
+                    angle: Angle { units },
+                };
+            }
+        }
+        CodedAngle {
+            code: codes::BAD_X,
+            angle: Angle { units: 0 },
         }
     }
 }

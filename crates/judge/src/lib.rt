@@ -112,11 +112,12 @@ fn decide(k: Case) -> Verdict
 }
 
 // The verdict on a claim, or the code of what is out of limits: 1, 2, 3, 4, then 5.
-pub fn judge(m: u32, a: u32, estimate: f64, n: u32, depth: u32) -> Judged
+pub fn judge(m: i32, a: u32, estimate: f64, n: u32, depth: u32) -> Judged
     ensures { λ r. ⌜ r ≡ judgeRule (record { given = grid m a; estimate = estimate; n = n; depth = depth }) ⌝ }
 {
     let posed = Problem::new(m, a, depth);
-    let made = units::in_units(estimate, Angle::T, codes::BAD_ESTIMATE);
+    let value = units::mirror(estimate, posed.mirrored);
+    let made = units::in_units(value, Angle::T, codes::BAD_ESTIMATE);
     let n_code = codes::limited(n, N_LIMIT, codes::BAD_N);
     let code = codes::earlier(posed.code, codes::earlier(made.code, n_code));
     if code != codes::DONE {

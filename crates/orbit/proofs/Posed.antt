@@ -5,13 +5,14 @@ use mathlib.Core.List.{[], _∷_}
 use Prim.Native.Nat.{ℕ}
 use native.Mathlib.Omega.{arith}
 use lib.Dec.{T}
+use lib.IntN.{natAbs}
 use Rattle.grid.specs.Grid.{one, H-units}
 use Rattle.grid.specs.Codes.{bad-m, bad-a, Passed, depth-check}
 use Rattle.grid.proofs.FirstCode.{coded, split}
 use Rattle.grid.proofs.Refuses.{Makes, makes}
 use Rattle.grid.proofs.Fits.{limit-fits, depth-fits}
-use Rattle.orbit.specs.Cell.{gridCell, CellIn}
-use Rattle.orbit.specs.Given.{Given, grid, checksOf, cellOf, cellWith, problemChecks, problemAt, problemWith, ProblemIn}
+use Rattle.orbit.specs.Cell.{CellIn}
+use Rattle.orbit.specs.Given.{Given, grid, checksOf, mirroredOf, cellOf, cellWith, noCell, problemChecks, problemAt, problemWith, noProblem, ProblemIn}
 use Rattle.orbit.specs.declared.CodedCell.{CodedCell}
 use Rattle.orbit.specs.declared.CodedProblem.{CodedProblem}
 
@@ -22,17 +23,16 @@ pub problem-coded : (g : Given) (d : ℕ) → T (coded (problemChecks g d))
 problem-coded (grid m a) d = tt
 
 pub cells : (g : Given)
-    → Makes (checksOf g) (λ (r : CodedCell). r .code) (λ k. cellWith k (gridCell 0 0)) (cellWith 0 (cellOf g))
+    → Makes (checksOf g) (λ (r : CodedCell). r .code) noCell (cellWith 0 (mirroredOf g) (cellOf g))
 cells g = makes refl (λ k. refl) (checks-coded g)
 
 pub problems : (g : Given) (d : ℕ)
-    → Makes (problemChecks g d) (λ (r : CodedProblem). r .code) (λ k. problemWith k (problemAt (gridCell 0 0) 0))
-    (problemWith 0 (problemAt (cellOf g) d))
+    → Makes (problemChecks g d) (λ (r : CodedProblem). r .code) noProblem (problemWith 0 (mirroredOf g) (problemAt (cellOf g) d))
 problems g d = makes refl (λ k. refl) (problem-coded g d)
 
 pub cell-in : (g : Given) → Passed (checksOf g) → CellIn (cellOf g)
 cell-in (grid m a) p =
-    let h = limit-fits m H-units bad-m (p .0) in
+    let h = limit-fits (natAbs m) H-units bad-m (p .0) in
     let k = limit-fits a one bad-a (p .1 .0) in
     record { means = omega arith; mean = h; shapes = omega arith; shape = k }
 

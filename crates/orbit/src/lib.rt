@@ -1,11 +1,28 @@
 // A problem, posed once: M and the eccentricity as they are known, and the depth at which it is asked.
 ghost use mathlib.Core.Path.{_≡_};
+ghost use Rattle.whole.specs.Room.{Roomy};
+ghost use Rattle.orbit.specs.Mirror.{mirror, mirrorEnd};
 ghost use Rattle.orbit.specs.Cell.{gridCell};
 ghost use Rattle.orbit.specs.Given.{grid, codedCell, codedProblem};
 use grid::Angle;
 use grid::Depth;
 use grid::Eccentricity;
 use grid::codes;
+
+// R59: a number, or on the mirror its negative.
+pub fn mirror(z: i64, mirrored: bool) -> i64
+    requires { ⌜ Roomy z ⌝ }
+    ensures { λ r. ⌜ r ≡ mirror mirrored z ⌝ }
+{
+    whole::signed(z, !mirrored)
+}
+
+// R59: which end it is, true for an upper one: on the mirror the ends change places.
+pub fn mirror_end(upper: bool, mirrored: bool) -> bool
+    ensures { λ r. ⌜ r ≡ mirrorEnd mirrored upper ⌝ }
+{
+    if mirrored { !upper } else { upper }
+}
 
 // Where a number lies, rounded down and rounded up to whole units: on the grid both are the number itself.
 pub struct Span {
@@ -19,9 +36,10 @@ pub struct Cell {
     pub a: Span,
 }
 
-// A code, and with code 0 the cell.
+// A code, and with code 0 the cell: that of -M where it is mirrored.
 pub struct CodedCell {
     pub code: u32,
+    pub mirrored: bool,
     pub cell: Cell,
 }
 
@@ -43,19 +61,23 @@ impl Cell {
         }
     }
 
-    pub fn new(m: u32, a: u32) -> CodedCell
+    // R59: a negative M is posed as -M, mirrored.
+    pub fn new(m: i32, a: u32) -> CodedCell
         ensures { λ r. ⌜ r ≡ codedCell (grid m a) ⌝ }
     {
-        let m_code = codes::limited(m, Angle::H, codes::BAD_M);
+        let size = whole::size(m);
+        let m_code = codes::limited(size, Angle::H, codes::BAD_M);
         let code = codes::earlier(m_code, Eccentricity::new(a).code);
         if code == codes::DONE {
             CodedCell {
                 code,
-                cell: Cell::on_grid(m, a),
+                mirrored: whole::negative(m),
+                cell: Cell::on_grid(size, a),
             }
         } else {
             CodedCell {
                 code,
+                mirrored: false,
                 cell: Cell::on_grid(0, 0),
             }
         }
@@ -68,15 +90,16 @@ pub struct Problem {
     pub depth: Depth,
 }
 
-// A code, and with code 0 the problem.
+// A code, and with code 0 the problem: that of -M where it is mirrored.
 pub struct CodedProblem {
     pub code: u32,
+    pub mirrored: bool,
     pub problem: Problem,
 }
 
 impl Problem {
     // The codes 1, 2 and 3, in that order.
-    pub fn new(m: u32, a: u32, depth: u32) -> CodedProblem
+    pub fn new(m: i32, a: u32, depth: u32) -> CodedProblem
         ensures { λ r. ⌜ r ≡ codedProblem (grid m a) depth ⌝ }
     {
         let posed = Cell::new(m, a);
@@ -87,11 +110,13 @@ impl Problem {
         if code == codes::DONE {
             CodedProblem {
                 code,
+                mirrored: posed.mirrored,
                 problem: Problem { cell, depth },
             }
         } else {
             CodedProblem {
                 code,
+                mirrored: false,
                 problem: Problem {
                     cell: Cell::on_grid(0, 0),
                     depth: Depth { pairs: 0 },

@@ -16,7 +16,7 @@ use rotations::State;
 #[repr(C)]
 pub struct Proposal {
     pub code: u32,
-    pub angle: u32,
+    pub angle: i32,
     pub y: i64,
     pub x: i64,
     pub j: u32,
@@ -66,27 +66,27 @@ fn certify(cell: Cell, angle: u64) -> u32
     j
 }
 
-// A final state, with E brought into range and certified.
-fn conclude(cell: Cell, s: State) -> Proposal
+// A final state, with E brought into range and certified. R59: on the mirror E and y change their signs, and x does not.
+fn conclude(cell: Cell, s: State, mirrored: bool) -> Proposal
     requires { ⌜ Concludable cell s ⌝ }
-    ensures { λ r. ⌜ r ≡ concluded cell s ⌝ }
+    ensures { λ r. ⌜ r ≡ mirrorProposal mirrored (concluded cell s) ⌝ }
 {
     let angle = rotations::bring(s.angle);
     let j = certify(cell, angle);
     Proposal {
         code: codes::DONE,
-        angle: angle as u32,
-        y: s.sine,
+        angle: orbit::mirror(angle as i64, mirrored) as i32,
+        y: orbit::mirror(s.sine, mirrored),
         x: s.cosine,
         j,
     }
 }
 
-// Given: the mean anomaly m, 0 to H units, and the eccentricity a / 2^28, a from 0 to 2^28.
+// Given: the mean anomaly m, -H to H units, and the eccentricity a / 2^28, a from 0 to 2^28.
 // Returned: the angle E proposed, y and x of the last rotation, and the certificate j, the smallest width such that the ends
 // max(E - 2^j, 0) and min(E + 2^j, T) are accepted at depth 5 (R38). How near E is, j alone says (R39).
 // Code: 0 done; 1 m above H; 2 a above 2^28. With code 1 or 2 all other numbers are 0.
-pub fn propose(m: u32, a: u32) -> Proposal
+pub fn propose(m: i32, a: u32) -> Proposal
     ensures { λ r. ⌜ r ≡ proposalRule (grid m a) ⌝ }
 {
     let posed = Cell::new(m, a);
@@ -102,5 +102,9 @@ pub fn propose(m: u32, a: u32) -> Proposal
     let cell = posed.cell;
     let mean = cell.m;
     let shape = cell.a;
-    conclude(cell, rotations::rotate(mean.down, shape.down))
+    conclude(
+        cell,
+        rotations::rotate(mean.down, shape.down),
+        posed.mirrored,
+    )
 }

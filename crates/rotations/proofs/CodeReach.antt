@@ -6,12 +6,15 @@ use native.Mathlib.Omega.{arith}
 use native.Mathlib.Nat.{le-refl, add-zero, add-suc, add-sub-of-le, mul-le-mul-right, div-le-of-le-mul}
 use lib.Dec.{lit≤}
 use lib.IntN.{ℤ, pos, natAbs, _+ℤ_}
+use Rattle.whole.specs.Sign.{signedBy}
+use Rattle.whole.specs.Room.{room}
+use Rattle.whole.proofs.CodeRoom.{size-add, size-sign}
 use Rattle.grid.specs.Grid.{one}
 use Rattle.rotations.specs.Table.{entry, G}
-use Rattle.rotations.specs.Rotate.{signedBy, shifted, turned, plusAt, shiftOf, rotations, start, fifty, rotated}
-use Rattle.rotations.specs.Room.{RoomyState, room}
+use Rattle.rotations.specs.Rotate.{shifted, turned, plusAt, shiftOf, rotations, start, fifty, rotated}
+use Rattle.rotations.specs.Room.{RoomyState}
 use Rattle.rotations.specs.declared.State.{State}
-use Rattle.rotations.proofs.CodeSize.{size-add, size-sign, shrunk, entry-small}
+use Rattle.rotations.proofs.CodeSize.{shrunk, entry-small}
 
 -- a rotation with shift k adds at most the other number's 2^-k-th part, and 1 for rounding down
 unfoldable pub reach : ℕ → ℕ

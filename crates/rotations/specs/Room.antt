@@ -1,16 +1,10 @@
 -- What the inner functions ask of their numbers, so that no sum leaves the range of an i64. No entry's contract cites this file.
 -- That the rotations keep to it from the start on is a law of their definition, among the proofs.
 use Prim.Native.Nat.{ℕ, _≤_, _<_}
-use lib.IntN.{ℤ, natAbs}
+use lib.IntN.{ℤ}
+use Rattle.whole.specs.Room.{room, Roomy}
 use Rattle.rotations.specs.Table.{entries}
 use Rattle.rotations.specs.declared.State.{State}
-
--- 2^40
-abbrev pub room : ℕ
-room = 1099511627776
-
-pub record Roomy (z : ℤ) : Type 0 where
-  pub size : natAbs z ≤ room
 
 pub record RoomyState (s : State) : Type 0 where
   pub angle : Roomy (s .angle)

@@ -1,23 +1,19 @@
 -- The rotations, R35 to R37: their start, their signs and steps, and where they leave E.
 use Prim.Native.Nat.{ℕ, zero, suc, _*_, _^_, _/_, min}
-use mathlib.Core.Bool.{Bool, true, false}
-use lib.IntN.{ℤ, pos, negsuc, negℤ, _+ℤ_, _-ℤ_}
+use mathlib.Core.Bool.{Bool}
+use lib.IntN.{ℤ, pos, negsuc, _+ℤ_, _-ℤ_}
 use lib.Signed.{ltZ, shrZ}
 use Rattle.grid.specs.Grid.{one, T-units}
 use Rattle.whole.specs.Round.{down}
+use Rattle.whole.specs.Sign.{signedBy}
 use Rattle.rotations.specs.Table.{entry, G}
 use Rattle.rotations.specs.declared.State.{State}
-
--- R36: z with the sign of a rotation, `true` for plus
-abbrev pub signedBy : Bool → ℤ → ℤ
-signedBy true z = z
-signedBy false z = negℤ z
 
 -- R36: z / 2^k, rounded down whatever its sign
 unfoldable pub shifted : ℕ → ℤ → ℤ
 shifted k z = shrZ z (2 ^ k)
 
--- R36: one rotation, its sign given: what x, the cosine, and y, the sine, gain or lose is a part of the old other, rounded first
+-- R36: one rotation, its sign given, `true` for plus: what x, the cosine, and y, the sine, gain or lose is a part of the old other, rounded first
 -- and signed then
 unfoldable pub turned : State → ℕ → Bool → State
 turned s k plus =

@@ -2,10 +2,11 @@
 ghost use mathlib.Core.Path.{_≡_};
 ghost use Prim.Native.Nat.{_<_, _≤_};
 ghost use lib.IntN.{pos};
+ghost use Rattle.whole.specs.Sign.{signedBy};
 ghost use Rattle.grid.specs.Grid.{one, H-units};
 ghost use Rattle.rotations.specs.Table.{entries, entry};
-ghost use Rattle.rotations.specs.Rotate.{signedBy, shifted, shiftOf, turned, plusAt, start, rotated, brought};
-ghost use Rattle.rotations.specs.Room.{Roomy, Shiftable, Turnable, Signable};
+ghost use Rattle.rotations.specs.Rotate.{shifted, shiftOf, turned, plusAt, start, rotated, brought};
+ghost use Rattle.rotations.specs.Room.{Shiftable, Turnable, Signable};
 
 // E, and x and y: e times the cosine and the sine of E. All are in units.
 pub struct State {
@@ -62,19 +63,12 @@ fn shift_of(i: u32) -> u32
     i / 2
 }
 
-fn signed(z: i64, plus: bool) -> i64
-    requires { ⌜ Roomy z ⌝ }
-    ensures { λ r. ⌜ r ≡ signedBy plus z ⌝ }
-{
-    if plus { z } else { 0 - z }
-}
-
 // R36: what the cosine loses of the sine, and the sine gains of the cosine: the shift rounds down, and the sign comes after it.
 fn part(z: i64, k: u32, plus: bool) -> i64
     requires { ⌜ Shiftable z k ⌝ }
     ensures { λ r. ⌜ r ≡ signedBy plus (shifted k z) ⌝ }
 {
-    signed(z >> k, plus)
+    whole::signed(z >> k, plus)
 }
 
 // One rotation by the angle of entry k, with its sign given.
@@ -82,7 +76,7 @@ fn turn(s: State, k: u32, plus: bool) -> State
     requires { ⌜ Turnable s k ⌝ }
     ensures { λ r. ⌜ r ≡ turned s k plus ⌝ }
 {
-    let angle = s.angle + signed(entry(k), plus);
+    let angle = s.angle + whole::signed(entry(k), plus);
     let old = s.cosine;
     let cosine = old - part(s.sine, k, plus);
     let sine = s.sine + part(old, k, plus);

@@ -18,11 +18,11 @@ pub drop-last : (s : Series) → Divides s → (X n a p q : ℕ)
 unfolding den same
 drop-last s div X n a p q h = le-of-mul-le-mul-right {k = ratio s (suc n)} (omega arith) (ratio-pos s div n)
 
--- p - q <= S_n gives p - q <= S_(n+1), for the odd n
-pub add-last : (s : Series) (X n p q : ℕ) → p * den s n + same s X n ≤ other s X n + q * den s n
-    → p * den s (suc n) + other s X (suc n) ≤ same s X (suc n) + q * den s (suc n)
+-- p - q <= a S_n gives p - q <= a S_(n+1), for the odd n
+pub add-last : (s : Series) (X n a p q : ℕ) → p * den s n + a * same s X n ≤ a * other s X n + q * den s n
+    → p * den s (suc n) + a * other s X (suc n) ≤ a * same s X (suc n) + q * den s (suc n)
 unfolding den same
-add-last s X n p q h = omega (arith, mul-le-mul-right (ratio s (suc n)) h)
+add-last s X n a p q h = omega (arith, mul-le-mul-right (ratio s (suc n)) h)
 
 pub S9-parts : (X : ℕ) → Is (S9 X) (other sine X 9) (same sine X 9)
 S9-parts X = S-parts sine X 9

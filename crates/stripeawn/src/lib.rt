@@ -24,35 +24,35 @@ pub extern "C" fn stripeawn_sine(x: u32, depth: u32) -> SineBounds
 }
 
 #[no_mangle]
-pub extern "C" fn stripeawn_lower_end(x: u32, m: u32, a: u32, depth: u32) -> End
+pub extern "C" fn stripeawn_lower_end(x: i32, m: i32, a: u32, depth: u32) -> End
     ensures { λ r. ⌜ r ≡ lowerRule x (grid m a) depth ⌝ }
 {
     ends::lower_end(x, m, a, depth)
 }
 
 #[no_mangle]
-pub extern "C" fn stripeawn_upper_end(x: u32, m: u32, a: u32, depth: u32) -> End
+pub extern "C" fn stripeawn_upper_end(x: i32, m: i32, a: u32, depth: u32) -> End
     ensures { λ r. ⌜ r ≡ upperRule x (grid m a) depth ⌝ }
 {
     ends::upper_end(x, m, a, depth)
 }
 
 #[no_mangle]
-pub extern "C" fn stripeawn_enclose(m: u32, a: u32, depth: u32) -> Enclosure
+pub extern "C" fn stripeawn_enclose(m: i32, a: u32, depth: u32) -> Enclosure
     ensures { λ r. ⌜ r ≡ enclosureRule (grid m a) depth ⌝ }
 {
     enclosure::enclose(m, a, depth)
 }
 
 #[no_mangle]
-pub extern "C" fn stripeawn_propose(m: u32, a: u32) -> Proposal
+pub extern "C" fn stripeawn_propose(m: i32, a: u32) -> Proposal
     ensures { λ r. ⌜ r ≡ proposalRule (grid m a) ⌝ }
 {
     proposal::propose(m, a)
 }
 
 #[no_mangle]
-pub extern "C" fn stripeawn_judge(m: u32, a: u32, estimate: f64, n: u32, depth: u32) -> Judged
+pub extern "C" fn stripeawn_judge(m: i32, a: u32, estimate: f64, n: u32, depth: u32) -> Judged
     ensures { λ r. ⌜ r ≡ judgeRule (record { given = grid m a; estimate = estimate; n = n; depth = depth }) ⌝ }
 {
     judge::judge(m, a, estimate, n, depth)

@@ -1,6 +1,6 @@
 // From a double to whole units of 2^-28: the floor and the ceiling.
 ghost use mathlib.Core.Path.{_≡_};
-ghost use Rattle.units.specs.Units.{codedUnits};
+ghost use Rattle.units.specs.Units.{mirrorEstimate, codedUnits};
 use grid::Eccentricity;
 use grid::codes;
 
@@ -18,6 +18,13 @@ pub struct CodedUnits {
 
 // 2^28, the units in one radian.
 const RADIAN: f64 = Eccentricity::ONE as f64;
+
+// R59: an estimate, or its mirror.
+pub fn mirror(value: f64, mirrored: bool) -> f64
+    ensures { λ r. ⌜ r ≡ mirrorEstimate mirrored value ⌝ }
+{
+    if mirrored { -value } else { value }
+}
 
 // The value in units where it is 0 to the limit, else the code. A NaN fails every test, and -0.0 passes as 0 does. The
 // product is exact, or it overflows to an infinity, which no limit reaches.

@@ -2,5 +2,6 @@ pub mod Bools
 pub mod Nested
 pub mod Order
 pub mod Parts
+pub mod CodeRoom
 pub mod Round
 pub mod Table

@@ -1,2 +1,4 @@
 pub mod Round
 pub mod Choose
+pub mod Sign
+pub mod Room

@@ -7,7 +7,7 @@ use Rattle.grid.specs.Grid.{T-units}
 use Rattle.rotations.specs.Rotate.{brought}
 use Rattle.proposal.specs.Propose.{concluded}
 use Rattle.rotations.proofs.Brought.{brought-within}
-use Rattle.rotations.proofs.CodeSize.{read}
+use Rattle.whole.proofs.CodeRoom.{read}
 use Rattle.proposal.proofs.conclude.Statement.{statement}
 use Rattle.proposal.proofs.conclude.Tie as tie
 

@@ -1,26 +1,22 @@
 -- `rotations::bring` meets its contract: the tests that led to each return are the definition's. Assumes nothing.
-use mathlib.Core.Path.{_≡_, refl}
-use mathlib.Core.Bool.{true, false}
-use Prim.Native.Nat.{ℕ, _≤_, _<_}
-use native.Mathlib.Omega.{arith}
+use mathlib.Core.Path.{_≡_, refl, sym, _∙_}
+use mathlib.Core.Bool.{true, true≢false}
+use Prim.Native.Nat.{_≤_, _<_}
 use native.Mathlib.Nat.{min-eq-left, min-eq-right, le-of-lt}
-use borrow.Author.Tests.{ltb-true}
 use lib.Dec.{T}
 use lib.IntN.{ℤ, pos, negsuc, natAbs}
-use lib.Signed.{ltZ, nonNeg}
+use lib.Signed.{nonNeg}
 use mir.Facts.{toZ-ofZ, fits-natAbs}
+use Rattle.whole.specs.Sign.{negative}
+use Rattle.whole.proofs.CodeRoom.{below-zero, not-negative}
 use Rattle.grid.specs.Grid.{T-units}
 use Rattle.rotations.specs.Rotate.{brought}
 use Rattle.rotations.proofs.bring.Statement.{statement}
 use Rattle.rotations.proofs.bring.Tie as tie
 
-below-zero : (z : ℤ) → ltZ z (pos 0) ≡ true → 0 ≡ brought z
-below-zero (pos n) e = absurd (let h = ltb-true n 0 e in let k : ⊥ = omega arith in k)
-below-zero (negsuc n) e = refl
-
-not-below : (z : ℤ) → ltZ z (pos 0) ≡ false → T (nonNeg z)
-not-below (pos n) e = tt
-not-below (negsuc n) e = let z : _≡_ {A = ℕ} 0 1 = cc in let k : ⊥ = omega arith in k
+up-to-0 : (z : ℤ) → negative z ≡ true → 0 ≡ brought z
+up-to-0 (pos n) e = absurd (true≢false (sym e))
+up-to-0 (negsuc n) e = refl
 
 up-to-T : (z : ℤ) → T (nonNeg z) → natAbs z ≤ T-units → natAbs z ≡ brought z
 up-to-T (pos n) t h = simp (min-eq-left h)
@@ -31,10 +27,14 @@ past-T (pos n) t h = simp (min-eq-right (le-of-lt h))
 past-T (negsuc n) t h = absurd t
 
 returns : tie.Need-returns
-returns c = below-zero (c .before .args .angle) (rw (toZ-ofZ (c .before .fits .angle)) at (c .if1 .taken))
+returns c =
+    let z = c .before .args .angle in
+    up-to-0 z (sym (below-zero z) ∙ (rw (toZ-ofZ (c .before .fits .angle)) at (c .if1 .taken)))
 
 above : (c : tie.Else1) → T (nonNeg (c .before .args .angle))
-above c = not-below (c .before .args .angle) (rw (toZ-ofZ (c .before .fits .angle)) at (c .if1 .left))
+above c =
+    let z = c .before .args .angle in
+    not-negative z (sym (below-zero z) ∙ (rw (toZ-ofZ (c .before .fits .angle)) at (c .if1 .left)))
 
 cast-n : tie.Need-cast-n
 cast-n c = rw (toZ-ofZ (c .before .fits .angle)) (above c, fits-natAbs tt (c .before .fits .angle))

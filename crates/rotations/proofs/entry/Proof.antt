@@ -3,7 +3,8 @@ use borrow.Author.Needs.{needs}
 use mir.Syntax.{w64}
 use mir.Facts.{toZ-pos}
 use Rattle.rotations.specs.Table.{table, entry}
-use Rattle.rotations.proofs.CodeSize.{roomy-entry, roomy-fits}
+use Rattle.whole.proofs.CodeRoom.{roomy-fits}
+use Rattle.rotations.proofs.CodeSize.{roomy-entry}
 use Rattle.rotations.proofs.entry.Statement.{statement}
 use Rattle.rotations.proofs.entry.Tie as tie
 

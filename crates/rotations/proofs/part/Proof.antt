@@ -1,7 +1,8 @@
 -- `rotations::part` meets its contract: the shift of an i64 rounds down. Assumes nothing.
 use borrow.Author.Needs.{needs}
 use Rattle.rotations.specs.Rotate.{shifted}
-use Rattle.rotations.proofs.CodeSize.{roomy-sign, roomy-shift, read}
+use Rattle.whole.proofs.CodeRoom.{roomy-sign, read}
+use Rattle.rotations.proofs.CodeSize.{roomy-shift}
 use Rattle.rotations.proofs.part.Statement.{statement}
 use Rattle.rotations.proofs.part.Tie as tie
 

@@ -4,7 +4,7 @@ use borrow.Author.Needs.{needs}
 use mir.Syntax.{w64}
 use mir.Facts.{toZ-ofZ, toZ-pos}
 use Rattle.rotations.specs.Rotate.{plusAt}
-use Rattle.rotations.proofs.CodeSize.{roomy-neg, sum-fits, read}
+use Rattle.whole.proofs.CodeRoom.{roomy-neg, sum-fits, read}
 use Rattle.rotations.proofs.sign.Statement.{statement}
 use Rattle.rotations.proofs.sign.Tie as tie
 

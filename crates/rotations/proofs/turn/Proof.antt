@@ -7,10 +7,12 @@ use lib.IntN.{ℤ, pos}
 use mir.Syntax.{w64}
 use mir.Val.{toZ, ofZ}
 use borrow.Author.Needs.{needs}
-use Rattle.rotations.specs.Rotate.{signedBy, shifted, turned}
-use Rattle.rotations.specs.Room.{Roomy}
+use Rattle.whole.specs.Sign.{signedBy}
+use Rattle.whole.specs.Room.{Roomy}
+use Rattle.whole.proofs.CodeRoom.{roomy-sign, read, held-sum, held-less}
+use Rattle.rotations.specs.Rotate.{shifted, turned}
 use Rattle.rotations.specs.Table.{entry}
-use Rattle.rotations.proofs.CodeSize.{roomy-sign, roomy-shift, roomy-entry, read, held-sum, held-less}
+use Rattle.rotations.proofs.CodeSize.{roomy-shift, roomy-entry}
 use Rattle.rotations.proofs.turn.Statement.{statement}
 use Rattle.rotations.proofs.turn.Tie as tie
 

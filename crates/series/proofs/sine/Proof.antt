@@ -18,7 +18,7 @@ said : (c : tie.After-earlier)
     ((c .before .before .new .result ≡ depthWith 0 (g .depth)) × (c .before .new2 .result ≡ angleWith 0 (g .x)))
 said c =
     let g = c .before .before .before .args in
-    then tt (depths-made (g .depth) .says _ (c .before .before .new .ensures)) (angles (g .x) .says _ (c .before .new2 .ensures)) _ (c .earlier .ensures)
+    then tt (depths-made (g .depth) .says _ (c .before .before .new .ensures)) (λ z. angles (g .x) .says _ (c .before .new2 .ensures)) _ (c .earlier .ensures)
 
 returns : tie.Need-returns
 unfolding sineRule

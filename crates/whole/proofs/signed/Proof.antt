@@ -1,10 +1,10 @@
--- `rotations::signed` meets its contract: 0 - z is negated z. Assumes nothing.
+-- `whole::signed` meets its contract: 0 - z is negated z. Assumes nothing.
 use mathlib.Core.Path.{_∙_}
 use lib.IntN.{+ℤ-idl}
 use mir.Facts.{toZ-ofZ}
-use Rattle.rotations.proofs.CodeSize.{nothing, roomy-neg, sum-fits, read}
-use Rattle.rotations.proofs.signed.Statement.{statement}
-use Rattle.rotations.proofs.signed.Tie as tie
+use Rattle.whole.proofs.CodeRoom.{nothing, roomy-neg, sum-fits, read}
+use Rattle.whole.proofs.signed.Statement.{statement}
+use Rattle.whole.proofs.signed.Tie as tie
 
 sub-result : tie.Need-sub-result
 sub-result c = rw (read (c .before .pre)) (sum-fits nothing (roomy-neg (c .before .pre)))
