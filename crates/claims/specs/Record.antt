@@ -4,6 +4,7 @@ use mathlib.Core.Bool.{not}
 use mathlib.Core.List.{List, _∷_}
 use lib.Dec.{eqb}
 use lib.Ieee.{binary64, ofBits}
+use Rattle.little.specs.LittleEndian.{twosComplement}
 use Rattle.grid.specs.Codes.{Check, bad-reserved, checked}
 use Rattle.orbit.specs.Given.{grid}
 use Rattle.judge.specs.Verdict.{verdictNumber}
@@ -11,11 +12,11 @@ use Rattle.judge.specs.Judge.{Claim, claimChecks, caseAt, caseVerdict}
 use Rattle.claims.specs.Form.{valueOf}
 use Rattle.claims.specs.declared.form.Form.{Form}
 
--- R49: the claim of the record that starts at a place; to `ofBits` every NaN pattern is the one NaN
+-- R49: the claim of the record that starts at a place; M is in two's complement, and to `ofBits` every NaN pattern is the one NaN
 abbrev pub claimFrom : Form → List ℕ → ℕ → Claim
 claimFrom form bytes start =
     record {
-      given = grid (valueOf bytes start (form .m)) (valueOf bytes start (form .a));
+      given = grid (twosComplement (valueOf bytes start (form .m))) (valueOf bytes start (form .a));
       estimate = ofBits binary64 (valueOf bytes start (form .estimate));
       n = valueOf bytes start (form .n);
       depth = valueOf bytes start (form .depth);

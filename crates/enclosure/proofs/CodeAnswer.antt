@@ -3,6 +3,8 @@ use mathlib.Core.Path.{_≡_, sym, _∙_}
 use mathlib.Core.Bool.{Bool, true, false, not}
 use mathlib.Core.List.{[], _∷_}
 use Prim.Native.Nat.{ℕ}
+use native.Mathlib.Omega.{arith}
+use lib.Dec.{lit<}
 use borrow.Author.Tests.{not-true, not-false}
 use Rattle.grid.specs.Grid.{T-units}
 use Rattle.grid.specs.Codes.{checked}
@@ -10,26 +12,33 @@ use Rattle.orbit.specs.declared.Cell.{Cell}
 use Rattle.ends.specs.Ends.{lowerEnd, upperEnd}
 use Rattle.enclosure.specs.declared.Enclosure.{Enclosure}
 use Rattle.enclosure.specs.declared.Bracket.{Bracket}
-use Rattle.enclosure.specs.Halving.{lastBracket}
-use Rattle.enclosure.specs.Enclosure.{T-check, refusal, foundLower, foundUpper, enclosed}
+use Rattle.enclosure.specs.Halving.{widest, lastBracket}
+use Rattle.enclosure.specs.Enclosure.{T-check, refusal, foundLower, foundUpper, mirrorEnds, enclosed}
+use Rattle.enclosure.specs.Moves.{EndsIn}
+use Rattle.enclosure.proofs.Halving.{turns-inside}
 
 -- the answer from the check of T on
-abbrev pub from-T : Cell → ℕ → Enclosure
-from-T c d = checked (T-check c d ∷ []) refusal (enclosed c d)
+abbrev pub from-T : Bool → Cell → ℕ → Enclosure
+from-T mirrored c d = checked (T-check c d ∷ []) refusal (enclosed mirrored c d)
 
-abbrev Searched : Cell → ℕ → Enclosure → Type 0
-Searched c d e = e ≡ from-T c d
+-- what a search comes to lies from 0 to T
+pub bracket-in : (acc : ℕ → Bool) {b : Bracket} → b ≡ lastBracket acc T-units → EndsIn (b .p) (b .q)
+bracket-in acc e =
+    let i = turns-inside acc 30 (widest T-units) (lit< tt) in
+    let o = i .order in
+    let h = i .high in
+    rw e (record { lower = omega arith; upper = h })
 
-module _ (c : Cell) (d : ℕ) {t : Bool} (at-T : t ≡ upperEnd c d T-units) where
-  pub without-T : not t ≡ true → {e : Enclosure} → e ≡ refusal 6 → Searched c d e
+module _ (mirrored : Bool) (c : Cell) (d : ℕ) {t : Bool} (at-T : t ≡ upperEnd c d T-units) where
+  pub without-T : not t ≡ true → {e : Enclosure} → e ≡ refusal 6 → e ≡ from-T mirrored c d
   without-T n e = rw (sym at-T ∙ not-true t n) e
 
   module _ (yes : not t ≡ false) {z : Bool} (at-0 : z ≡ upperEnd c d 0) {s : Bracket} (low : s ≡ lastBracket (lowerEnd c d) T-units) where
-    pub from-zero : z ≡ true → Searched c d (record { code = 0; a = s .p; b = 0 })
+    pub from-zero : z ≡ true → mirrorEnds mirrored (s .p) 0 ≡ from-T mirrored c d
     unfolding foundLower foundUpper
     from-zero y = simp (sym at-T ∙ not-false t yes, sym at-0 ∙ y, low)
 
     pub from-searches : z ≡ false → {u : Bracket} → u ≡ lastBracket (λ X. not (upperEnd c d X)) T-units
-        → Searched c d (record { code = 0; a = s .p; b = u .q })
+        → mirrorEnds mirrored (s .p) (u .q) ≡ from-T mirrored c d
     unfolding foundLower foundUpper
     from-searches n high = simp (sym at-T ∙ not-false t yes, sym at-0 ∙ n, low, high)

@@ -9,13 +9,14 @@ use native.Mathlib.Omega.{arith}
 use native.Mathlib.Nat.{lt-of-not-le}
 use borrow.Author.Tests.{le-ltb}
 use lib.Dec.{T, T-not, eqb, lit≤, lit<}
+use lib.IntN.{ℤ, pos, negsuc, natAbs}
 use Rattle.grid.specs.Grid.{H-units, T-units, depths}
-use Rattle.grid.specs.Codes.{Check, number}
+use Rattle.grid.specs.Codes.{Check, number, checked, bad-m, limit-check, a-check, depth-check}
 use Rattle.grid.specs.Refuses.{all}
 use Rattle.grid.proofs.FirstCode.{coded, split, only-last}
 use Rattle.grid.proofs.Refuses.{Makes, makes}
 use Rattle.orbit.specs.Cell.{gridCell, CellIn}
-use Rattle.orbit.specs.Given.{Given, grid, cellOf, problemChecks, problemAt, ProblemIn}
+use Rattle.orbit.specs.Given.{Given, grid, mirroredOf, cellOf, problemChecks, problemAt, ProblemIn}
 use Rattle.orbit.specs.declared.Cell.{Cell}
 use Rattle.orbit.proofs.Posed.{problem-in}
 use Rattle.ends.specs.Ends.{lowerEnd, upperEnd}
@@ -23,7 +24,7 @@ use Rattle.ends.proofs.Apart.{apart}
 use Rattle.ends.proofs.Corners.{deeper}
 use Rattle.ends.proofs.Known.{zero-lower, T-never, T-upper, circle-lower, circle-upper}
 use Rattle.enclosure.specs.declared.Enclosure.{Enclosure}
-use Rattle.enclosure.specs.Enclosure.{T-check, enclosureChecks, refusal, foundLower, foundUpper, enclosed, enclosureRule}
+use Rattle.enclosure.specs.Enclosure.{T-check, enclosureChecks, refusal, foundLower, foundUpper, mirrorEnds, enclosed, enclosureRule}
 use Rattle.enclosure.proofs.Searches.{LowerFound, UpperFound, lower-found, upper-found, lower-rises, upper-falls}
 
 -- ---- which code is given
@@ -31,8 +32,13 @@ use Rattle.enclosure.proofs.Searches.{LowerFound, UpperFound, lower-fou
 enclosure-coded : (g : Given) (d : ℕ) → T (coded (enclosureChecks g d))
 enclosure-coded (grid m a) d = tt
 
-pub enclosures : (g : Given) (d : ℕ) → Makes (enclosureChecks g d) (λ (e : Enclosure). e .code) refusal (enclosed (cellOf g) d)
-enclosures g d = makes refl (λ k. refl) (enclosure-coded g d)
+mirrored-done : (mirrored : Bool) (a b : ℕ) → mirrorEnds mirrored a b .code ≡ 0
+mirrored-done true a b = refl
+mirrored-done false a b = refl
+
+pub enclosures : (g : Given) (d : ℕ)
+    → Makes (enclosureChecks g d) (λ (e : Enclosure). e .code) refusal (enclosed (mirroredOf g) (cellOf g) d)
+enclosures g d = makes (mirrored-done (mirroredOf g) _ _) (λ k. refl) (enclosure-coded g d)
 
 is-accepted : (t : Bool) → not t ≡ false → T t
 is-accepted true e = tt
@@ -42,7 +48,7 @@ is-accepted false e = absurd (let z : T true = tt in subst T e z)
 pub record CodeZero (g : Given) (d : ℕ) : Type 0 where
   pub problem : ProblemIn (problemAt (cellOf g) d)
   pub top : T (upperEnd (cellOf g) d T-units)
-  pub ends : enclosureRule g d ≡ enclosed (cellOf g) d
+  pub ends : enclosureRule g d ≡ enclosed (mirroredOf g) (cellOf g) d
 
 pub code-zero : (g : Given) (d : ℕ) → enclosureRule g d .code ≡ 0 → CodeZero g d
 code-zero g d z =
@@ -66,10 +72,10 @@ never-six g d h six =
 
 -- ---- R29
 
-pub record Encloses (c : Cell) (d : ℕ) (e : Enclosure) : Type 0 where
-  pub lower : LowerFound (lowerEnd c d) T-units (e .a)
-  pub upper : UpperFound (upperEnd c d) T-units (e .b)
-  pub order : e .a ≤ e .b
+pub record Encloses (c : Cell) (d : ℕ) : Type 0 where
+  pub lower : LowerFound (lowerEnd c d) T-units (foundLower c d)
+  pub upper : UpperFound (upperEnd c d) T-units (foundUpper c d)
+  pub order : foundLower c d ≤ foundUpper c d
 
 module _ (c : Cell) (d : ℕ) where
   pub lower-end : CellIn c → d ≤ depths → LowerFound (lowerEnd c d) T-units (foundLower c d)
@@ -80,7 +86,7 @@ module _ (c : Cell) (d : ℕ) where
   unfolding foundUpper
   upper-end t = upper-found (upperEnd c d) T-units (lit< tt) (lit≤ tt) t
 
-pub encloses : (g : Given) (d : ℕ) → enclosureRule g d .code ≡ 0 → Encloses (cellOf g) d (enclosureRule g d)
+pub encloses : (g : Given) (d : ℕ) → enclosureRule g d .code ≡ 0 → Encloses (cellOf g) d
 encloses g d z =
     let s = code-zero g d z in
     let i = s .problem .cell in
@@ -88,19 +94,15 @@ encloses g d z =
     let l = lower-end (cellOf g) d i few in
     let u = upper-end (cellOf g) d (s .top) in
     let w = l .within in
-    rw (s .ends)
-    (record { lower = l; upper = u; order = apart (cellOf g) _ _ d d i (omega arith) (u .within) few few (l .accepted) (u .accepted) })
+    record { lower = l; upper = u; order = apart (cellOf g) _ _ d d i (omega arith) (u .within) few few (l .accepted) (u .accepted) }
 
--- R30: a does not fall and b does not rise as the depth grows, where both are given
-pub deeper-within : (g : Given) (d e : ℕ) → d ≤ e → enclosureRule g d .code ≡ 0 → enclosureRule g e .code ≡ 0
-    → (enclosureRule g d .a ≤ enclosureRule g e .a) × (enclosureRule g e .b ≤ enclosureRule g d .b)
+-- R30: a does not fall and b does not rise as the depth grows
+pub deeper-within : (c : Cell) (d e : ℕ) → d ≤ e → (foundLower c d ≤ foundLower c e) × (foundUpper c e ≤ foundUpper c d)
 unfolding foundLower foundUpper
-deeper-within g d e h s t =
-    let c = cellOf g in
-    rw (code-zero g d s .ends, code-zero g e t .ends) (
-      lower-rises (lowerEnd c d) (lowerEnd c e) (λ x. deeper false c x h) T-units (lit< tt),
-      upper-falls (upperEnd c d) (upperEnd c e) (λ x. deeper true c x h) T-units (lit< tt),
-    )
+deeper-within c d e h = (
+  lower-rises (lowerEnd c d) (lowerEnd c e) (λ x. deeper false c x h) T-units (lit< tt),
+  upper-falls (upperEnd c d) (upperEnd c e) (λ x. deeper true c x h) T-units (lit< tt),
+)
 
 -- ---- R32: a circle, A = 0
 
@@ -136,7 +138,14 @@ module _ (m d : ℕ) (h : m ≤ H-units) where
       omega arith)
       (f .next)
 
-  -- R32: of a circle both ends are M
-  pub circle : 1 ≤ d → d ≤ depths → enclosureRule (grid m 0) d ≡ record { code = 0; a = m; b = m }
-  circle l r =
+  -- with the sign of M
+  circle-checked : (mirrored : Bool) → 1 ≤ d → d ≤ depths
+      → checked (limit-check m H-units bad-m ∷ a-check 0 ∷ depth-check d ∷ T-check (gridCell m 0) d ∷ []) refusal (enclosed mirrored (gridCell m 0) d)
+      ≡ mirrorEnds mirrored m m
+  circle-checked mirrored l r =
       simp (le-ltb H-units m h, le-ltb d 1 l, le-ltb depths d r, is-yes (upperEnd (gridCell m 0) d T-units) circle-top, circle-a r, circle-b)
+
+-- R32: of a circle both ends are M
+pub circle : (m : ℤ) (d : ℕ) → natAbs m ≤ H-units → 1 ≤ d → d ≤ depths → enclosureRule (grid m 0) d ≡ record { code = 0; lower = m; upper = m }
+circle (pos m) d h = circle-checked m d h false
+circle (negsuc m) d h = circle-checked (suc m) d h true

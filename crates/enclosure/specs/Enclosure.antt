@@ -1,10 +1,11 @@
 -- What the entry `enclose` answers for what is given and a depth, R26 to R28 and R31.
 use Prim.Native.Nat.{ℕ}
-use mathlib.Core.Bool.{not}
+use mathlib.Core.Bool.{Bool, true, false, not}
 use mathlib.Core.List.{List, [], _∷_, _++_}
+use lib.IntN.{pos, negℤ}
 use Rattle.grid.specs.Grid.{T-units}
 use Rattle.grid.specs.Codes.{Check, number, done, no-upper-end, checked}
-use Rattle.orbit.specs.Given.{Given, cellOf, problemChecks}
+use Rattle.orbit.specs.Given.{Given, mirroredOf, cellOf, problemChecks}
 use Rattle.orbit.specs.declared.Cell.{Cell}
 use Rattle.ends.specs.Ends.{lowerEnd, upperEnd}
 use Rattle.enclosure.specs.declared.Enclosure.{Enclosure}
@@ -28,12 +29,17 @@ foundUpper c d = upperSearch (upperEnd c d) T-units
 
 -- R7: zeros beside a code
 abbrev pub refusal : ℕ → Enclosure
-refusal code = record { code = code; a = 0; b = 0 }
+refusal code = record { code = code; lower = pos 0; upper = pos 0 }
+
+-- R31: the ends a and b; R59: on the mirror -b and -a
+abbrev pub mirrorEnds : Bool → ℕ → ℕ → Enclosure
+mirrorEnds false a b = record { code = number done; lower = pos a; upper = pos b }
+mirrorEnds true a b = record { code = number done; lower = negℤ (pos b); upper = negℤ (pos a) }
 
 -- R31: both searches
-abbrev pub enclosed : Cell → ℕ → Enclosure
-enclosed c d = record { code = number done; a = foundLower c d; b = foundUpper c d }
+abbrev pub enclosed : Bool → Cell → ℕ → Enclosure
+enclosed mirrored c d = mirrorEnds mirrored (foundLower c d) (foundUpper c d)
 
 -- R31: the first code that applies, and the two ends where none does
 abbrev pub enclosureRule : Given → ℕ → Enclosure
-enclosureRule g d = checked (enclosureChecks g d) refusal (enclosed (cellOf g) d)
+enclosureRule g d = checked (enclosureChecks g d) refusal (enclosed (mirroredOf g) (cellOf g) d)

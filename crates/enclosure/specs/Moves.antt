@@ -1,6 +1,7 @@
--- How the code's searches move. No entry's contract cites this file.
-use Prim.Native.Nat.{ℕ}
+-- How the code's searches move, and the limits of what they find. No entry's contract cites this file.
+use Prim.Native.Nat.{ℕ, _≤_}
 use mathlib.Core.Bool.{Bool, true, false, not}
+use Rattle.grid.specs.Grid.{T-units}
 use Rattle.orbit.specs.declared.Cell.{Cell}
 use Rattle.ends.specs.Ends.{lowerEnd, upperEnd}
 
@@ -8,3 +9,8 @@ use Rattle.ends.specs.Ends.{lowerEnd, upperEnd}
 abbrev pub movesP : Bool → Cell → ℕ → ℕ → Bool
 movesP true c d = λ X. not (upperEnd c d X)
 movesP false c d = lowerEnd c d
+
+-- ends from 0 to T, which have negatives
+pub record EndsIn (a b : ℕ) : Type 0 where
+  pub lower : a ≤ T-units
+  pub upper : b ≤ T-units

@@ -6,8 +6,8 @@ ghost use Rattle.grid.specs.Codes.{checked};
 ghost use Rattle.orbit.specs.Given.{grid, ProblemIn};
 ghost use Rattle.ends.specs.Corner.{Asked};
 ghost use Rattle.enclosure.specs.Halving.{lastBracket};
-ghost use Rattle.enclosure.specs.Enclosure.{T-check, refusal, enclosed, enclosureRule};
-ghost use Rattle.enclosure.specs.Moves.{movesP};
+ghost use Rattle.enclosure.specs.Enclosure.{T-check, refusal, mirrorEnds, enclosed, enclosureRule};
+ghost use Rattle.enclosure.specs.Moves.{movesP, EndsIn};
 use grid::Angle;
 use grid::codes;
 use orbit::Problem;
@@ -70,7 +70,7 @@ fn refused(code: u32) -> Enclosure
 // R59: the ends a and b that were found, or on the mirror -b and -a.
 fn between(a: u32, b: u32, mirrored: bool) -> Enclosure
     requires { ⌜ EndsIn a b ⌝ }
-    ensures { λ r. ⌜ r ≡ mirrorEnds mirrored (ends a b) ⌝ }
+    ensures { λ r. ⌜ r ≡ mirrorEnds mirrored a b ⌝ }
 {
     let lower = a as i32;
     let upper = b as i32;
@@ -92,7 +92,7 @@ fn between(a: u32, b: u32, mirrored: bool) -> Enclosure
 // Both searches, of a problem within its limits; code 6 where T is not accepted as an upper end.
 fn enclose_problem(problem: Problem, mirrored: bool) -> Enclosure
     requires { ⌜ ProblemIn problem ⌝ }
-    ensures { λ r. ⌜ r ≡ checked (T-check (problem .cell) (problem .depth .pairs) ∷ []) refusal (enclosed (problem .cell) (problem .depth .pairs)) ⌝ }
+    ensures { λ r. ⌜ r ≡ checked (T-check (problem .cell) (problem .depth .pairs) ∷ []) refusal (enclosed mirrored (problem .cell) (problem .depth .pairs)) ⌝ }
 {
     if !ends::upper(problem, Angle { units: grid::T }) {
         return refused(codes::NO_UPPER_END);

@@ -13,9 +13,9 @@ use Rattle.grid.specs.Grid.{one, T-units, depths}
 use Rattle.series.specs.Exact.{num, ratio, S}
 use Rattle.orbit.specs.Cell.{Exact, orbitAt, gridCell}
 use Rattle.orbit.specs.Mirror.{mirror, mirrorEnd}
-use Rattle.orbit.specs.Given.{Given, grid, mirroredOf, cellOf, exactOf}
+use Rattle.orbit.specs.Given.{Given, grid, cellOf, exactOf}
 use Rattle.ends.specs.Ends.{endAt}
-use Rattle.ends.specs.Exact.{Sum, oddly, Meets, Spare, sumOf, EndExact, EndSpare}
+use Rattle.ends.specs.Exact.{oddly, Meets, Spare, sumOf, ExactAt, EndSpare}
 use Rattle.ends.proofs.Exact.{corner-true, other-sum, corner-spare}
 use Rattle.ends.proofs.InNaturals.{posed}
 
@@ -78,8 +78,7 @@ twice true true = refl
 twice true false = refl
 
 -- R19: an end that the mirror's test accepts
-pub end-true : (upper : Bool) (g : Given) (X : ℕ) → X ≤ T-units → (d : ℕ) → d ≤ depths → T (endAt upper (cellOf g) d X)
-    → EndExact (mirrorEnd (mirroredOf g) upper) (exactOf g) (mirror (mirroredOf g) (pos X))
+pub end-true : (upper : Bool) (g : Given) (X : ℕ) → X ≤ T-units → (d : ℕ) → d ≤ depths → T (endAt upper (cellOf g) d X) → ExactAt upper g X
 end-true upper (grid (pos m) a) X w d j t =
     let h = corner-true upper m a X w d j t in record { own = h; letter = h }
 end-true upper (grid (negsuc m) a) X w d j t =

@@ -9,7 +9,8 @@ use Rattle.whole.specs.Sign.{negative}
 use Rattle.grid.specs.Grid.{one}
 use Rattle.series.specs.Sine.{S9, S10, den9, den10}
 use Rattle.orbit.specs.Cell.{Exact}
-use Rattle.orbit.specs.Mirror.{mirrorEnd}
+use Rattle.orbit.specs.Mirror.{mirror, mirrorEnd}
+use Rattle.orbit.specs.Given.{Given, mirroredOf, exactOf}
 
 -- R8: one of the sums, over its denominator
 pub record Sum : Type 0 where
@@ -58,6 +59,10 @@ ownSum upper o = sumOf (mirrorEnd (negative (o .m)) upper)
 pub record EndExact (upper : Bool) (o : Exact) (X : ℤ) : Type 0 where
   pub own : Meets upper (ownSum upper o) o X
   pub letter : Meets upper (sumOf upper) o X
+
+-- R19, R59: what an end of the problem that was posed says of what was given
+abbrev pub ExactAt : Bool → Given → ℕ → Type 0
+ExactAt upper g X = EndExact (mirrorEnd (mirroredOf g) upper) (exactOf g) (mirror (mirroredOf g) (pos X))
 
 -- R20: the inequality with its own sum and 32 e units to spare: there depth 5 accepts
 abbrev pub EndSpare : Bool → Exact → ℤ → Type 0

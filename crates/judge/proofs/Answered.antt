@@ -12,12 +12,12 @@ use Rattle.grid.specs.Codes.{Passed, bad-n, depth-check, n-check}
 use Rattle.grid.proofs.FirstCode.{coded, split, join}
 use Rattle.grid.proofs.Refuses.{Makes, makes}
 use Rattle.grid.proofs.Fits.{limit-fits, depth-passes}
-use Rattle.orbit.specs.Given.{Given, grid, checksOf, cellOf, exactOf, problemChecks}
+use Rattle.orbit.specs.Given.{Given, grid, checksOf, cellOf, problemChecks}
 use Rattle.orbit.proofs.Posed.{problem-in}
 use Rattle.units.specs.Units.{estimate-check}
 use Rattle.units.proofs.Rounding.{estimate-fits}
 use Rattle.judge.specs.Verdict.{verdictNumber}
-use Rattle.judge.specs.Judge.{Claim, claimChecks, caseAt, caseVerdict, verdict, unjudged, judgeRule}
+use Rattle.judge.specs.Judge.{Claim, estimateOf, claimChecks, caseAt, caseVerdict, verdict, unjudged, judgeRule}
 use Rattle.judge.specs.Exact.{ConfirmedExact, AboveExact, BelowExact, atDepth}
 use Rattle.judge.specs.Limits.{CaseIn}
 use Rattle.judge.specs.declared.Judged.{Judged}
@@ -30,15 +30,15 @@ claim-coded (grid m a) d x n = tt
 
 module _ (k : Claim) where
   pub claims : Makes (claimChecks k) (λ (j : Judged). j .code) unjudged (verdict (caseVerdict (caseAt k)))
-  claims = makes refl (λ n. refl) (claim-coded (k .given) (k .depth) (k .estimate) (k .n))
+  claims = makes refl (λ n. refl) (claim-coded (k .given) (k .depth) (estimateOf k) (k .n))
 
   -- a claim whose checks pass is within every limit
   pub case-in : Passed (claimChecks k) → CaseIn (caseAt k)
   case-in p =
-      let (posed, rest) = split (problemChecks (k .given) (k .depth)) (estimate-check (k .estimate) ∷ n-check (k .n) ∷ []) p in
+      let (posed, rest) = split (problemChecks (k .given) (k .depth)) (estimate-check (estimateOf k) ∷ n-check (k .n) ∷ []) p in
       record {
         problem = problem-in (k .given) (k .depth) posed;
-        units = estimate-fits (k .estimate) (rest .0);
+        units = estimate-fits (estimateOf k) (rest .0);
         tolerance = limit-fits (k .n) N-units bad-n (rest .1 .0);
       }
 
@@ -75,7 +75,7 @@ module _ (k : Claim) where
     limits = case-in k (judged-passed k v h)
 
   -- Confirmed: both exact inequalities, at p and at q
-  pub confirmed-says : judgeRule k ≡ verdict Confirmed → ConfirmedExact (exactOf (k .given)) (caseAt k .units) (k .n)
+  pub confirmed-says : judgeRule k ≡ verdict Confirmed → ConfirmedExact (k .given) (caseAt k .units) (k .n)
   confirmed-says h =
       let t = limits Confirmed h in
       confirmed-exact (k .given) (caseAt k .units) (k .n) (t .units .ceiling) (k .depth) (t .problem .depth .few)
@@ -83,7 +83,7 @@ module _ (k : Claim) where
 
   -- Refuted: the exact inequality at the refuting end
   pub refuted-says : judgeRule k ≡ verdict Refuted
-      → AboveExact (exactOf (k .given)) (caseAt k .units) (k .n) ⊎ BelowExact (exactOf (k .given)) (caseAt k .units) (k .n)
+      → AboveExact (k .given) (caseAt k .units) (k .n) ⊎ BelowExact (k .given) (caseAt k .units) (k .n)
   refuted-says h =
       let t = limits Refuted h in
       refuted-exact (k .given) (caseAt k .units) (k .n) (t .units .ceiling) (k .depth) (t .problem .depth .few)

@@ -10,7 +10,7 @@ use Rattle.grid.proofs.Outcomes.{of-checked}
 use Rattle.orbit.specs.Given.{Given, grid, problemChecks}
 use Rattle.units.specs.Units.{estimate-check}
 use Rattle.judge.specs.Verdict.{verdictNumber}
-use Rattle.judge.specs.Judge.{Claim, caseAt, caseVerdict, verdict, unjudged, judgeRule}
+use Rattle.judge.specs.Judge.{Claim, estimateOf, caseAt, caseVerdict, verdict, unjudged, judgeRule}
 use Rattle.judge.specs.declared.Judged.{Judged}
 use Rattle.judge.specs.declared.Verdict.{Verdict}
 use Rattle.judge.specs.declared.Verdict.the-variants.{Confirmed, Refuted, Undecided}
@@ -26,7 +26,7 @@ module _ (P : Judged → Type 0) (m : P (unjudged 1)) (a : P (unjudged 2)) (dept
 
   pub of-judged : (c : Claim) → (N-units < c .n → P (unjudged 5)) → P (judgeRule c)
   unfolding judgeRule
-  of-judged c = by-given (c .given) (c .depth) (c .estimate) (c .n) (caseVerdict (caseAt c))
+  of-judged c = by-given (c .given) (c .depth) (estimateOf c) (c .n) (caseVerdict (caseAt c))
 
 verdict-small : (v : Verdict) → verdictNumber v ≤ 18
 verdict-small Confirmed = omega arith

@@ -9,10 +9,10 @@ use lib.Dec.{T, leb, leb→le, le→leb}
 use Rattle.whole.proofs.Bools.{both-parts, both, either-part, either}
 use Rattle.grid.specs.Grid.{T-units, depths}
 use Rattle.orbit.specs.Cell.{CellIn}
-use Rattle.orbit.specs.Given.{Given, cellOf, exactOf}
+use Rattle.orbit.specs.Given.{Given, cellOf}
 use Rattle.orbit.specs.declared.Cell.{Cell}
 use Rattle.ends.specs.Ends.{lowerEnd, upperEnd}
-use Rattle.ends.proofs.Exact.{lower-true, upper-true}
+use Rattle.ends.proofs.Mirror.{end-true}
 use Rattle.ends.proofs.Corners.{deeper}
 use Rattle.ends.proofs.Apart.{apart}
 use Rattle.units.specs.declared.Units.{Units}
@@ -86,19 +86,19 @@ module _ (c : Cell) (u : Units) (n : ℕ) where
 -- ---- R19 behind a verdict, of what is given
 
 module _ (g : Given) (u : Units) (n : ℕ) (top : u .ceiling ≤ T-units) (d : ℕ) (few : d ≤ depths) where
-  pub confirmed-exact : T (confirmed (cellOf g) d u n) → ConfirmedExact (exactOf g) u n
+  pub confirmed-exact : T (confirmed (cellOf g) d u n) → ConfirmedExact g u n
   unfolding confirmed
   confirmed-exact t =
       let s = both-parts (lowerEnd (cellOf g) d (lowEnd u n)) (upperEnd (cellOf g) d (highEnd u n)) t in
       record {
-        lower = lower-true g (lowEnd u n) (omega arith) d few (s .0);
-        upper = upper-true g (highEnd u n) (omega arith) d few (s .1);
+        lower = end-true false g (lowEnd u n) (omega arith) d few (s .0);
+        upper = end-true true g (highEnd u n) (omega arith) d few (s .1);
       }
 
-  pub refuted-exact : T (refuted (cellOf g) d u n) → AboveExact (exactOf g) u n ⊎ BelowExact (exactOf g) u n
+  pub refuted-exact : T (refuted (cellOf g) d u n) → AboveExact g u n ⊎ BelowExact g u n
   refuted-exact t =
-      ⊎-elim (λ a. inl (record { within = a .within; lower = lower-true g (u .floor + n + 1) (a .within) d few (a .lower) }))
-      (λ b. inr (record { within = b .within; upper = upper-true g (u .ceiling - (n + 1)) (omega arith) d few (b .upper) }))
+      ⊎-elim (λ a. inl (record { within = a .within; lower = end-true false g (u .floor + n + 1) (a .within) d few (a .lower) }))
+      (λ b. inr (record { within = b .within; upper = end-true true g (u .ceiling - (n + 1)) (omega arith) d few (b .upper) }))
       (refuted-by (cellOf g) u n .0 t)
 
 -- ---- the verdict

@@ -3,8 +3,8 @@ use Prim.Native.Nat.{ℕ}
 use mathlib.Core.List.{List, [], _∷_, _++_}
 use lib.Ieee.{Float}
 use Rattle.grid.specs.Codes.{Check, number, done, checked, n-check}
-use Rattle.orbit.specs.Given.{Given, cellOf, problemChecks, problemAt}
-use Rattle.units.specs.Units.{estimate-check, floorAndCeiling}
+use Rattle.orbit.specs.Given.{Given, mirroredOf, cellOf, problemChecks, problemAt}
+use Rattle.units.specs.Units.{mirrorDouble, estimate-check, floorAndCeiling}
 use Rattle.judge.specs.Verdict.{verdictOf, verdictNumber}
 use Rattle.judge.specs.declared.Judged.{Judged}
 use Rattle.judge.specs.declared.Verdict.{Verdict}
@@ -17,16 +17,20 @@ pub record Claim : Type 0 where
   pub n : ℕ
   pub depth : ℕ
 
+-- R59: the estimate, mirrored with M
+abbrev pub estimateOf : Claim → Float
+estimateOf c = mirrorDouble (mirroredOf (c .given)) (c .estimate)
+
 -- R48: the checks of a claim, codes 1, 2, 3, 4 and 5 in that order
 abbrev pub claimChecks : Claim → List Check
-claimChecks c = problemChecks (c .given) (c .depth) ++ estimate-check (c .estimate) ∷ n-check (c .n) ∷ []
+claimChecks c = problemChecks (c .given) (c .depth) ++ estimate-check (estimateOf c) ∷ n-check (c .n) ∷ []
 
 -- R48: a claim whose checks pass: a problem, f and c, and N
 abbrev pub caseAt : Claim → Case
 caseAt c =
     record {
       problem = problemAt (cellOf (c .given)) (c .depth);
-      units = floorAndCeiling (c .estimate);
+      units = floorAndCeiling (estimateOf c);
       tolerance = c .n;
     }
 

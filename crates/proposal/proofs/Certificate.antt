@@ -4,15 +4,17 @@ use mathlib.Core.Path.{_≡_}
 use Prim.Native.Nat.{ℕ, _+_, _^_, _≤_}
 use native.Mathlib.Omega.{arith}
 use native.Mathlib.Nat.{min-eq-right, min-le-right}
+use mathlib.Core.Bool.{true, false}
 use lib.Dec.{T}
+use lib.IntN.{natAbs}
 use Rattle.whole.proofs.Bools.{both-parts, both}
 use Rattle.grid.specs.Grid.{H-units, T-units, depths}
-use Rattle.orbit.specs.Given.{Given, cellOf, exactOf}
+use Rattle.orbit.specs.Given.{Given, cellOf}
 use Rattle.orbit.specs.declared.Cell.{Cell}
 use Rattle.ends.specs.Ends.{lowerEnd, upperEnd}
-use Rattle.ends.specs.Exact.{LowerExact, UpperExact}
+use Rattle.ends.specs.Exact.{ExactAt}
 use Rattle.ends.proofs.Known.{zero-lower, T-upper}
-use Rattle.ends.proofs.Exact.{lower-true, upper-true}
+use Rattle.ends.proofs.Mirror.{end-true}
 use Rattle.proposal.specs.Certify.{lowAt, highAt, certifies, certificate, widths, Smallest}
 use Rattle.proposal.specs.Propose.{concluded}
 use Rattle.rotations.specs.Rotate.{brought}
@@ -45,23 +47,24 @@ module _ (c : Cell) (E : ℕ) (mean : c .m .up ≤ H-units) (angle : E ≤ T-uni
 
 -- the ends of a width that certifies satisfy the exact inequalities, whatever the rotations did
 pub ends-true : (g : Given) (E j : ℕ) → E ≤ T-units → T (certifies (cellOf g) E j)
-    → LowerExact (exactOf g) (lowAt E j) × UpperExact (exactOf g) (highAt E j)
+    → ExactAt false g (lowAt E j) × ExactAt true g (highAt E j)
 unfolding certifies
 ends-true g E j angle t =
     let p = both-parts (lowerEnd (cellOf g) depths (lowAt E j)) (upperEnd (cellOf g) depths (highAt E j)) t in (
-      lower-true g (lowAt E j) (omega arith) depths (omega arith) (p .0),
-      upper-true g (highAt E j) (min-le-right (E + 2 ^ j) T-units) depths (omega arith) (p .1),
+      end-true false g (lowAt E j) (omega arith) depths (omega arith) (p .0),
+      end-true true g (highAt E j) (min-le-right (E + 2 ^ j) T-units) depths (omega arith) (p .1),
     )
 
 -- ---- R39: what the entry's answer says, for any final state, so that no rotation can make it false
 
 pub concluded-smallest : (c : Cell) (s : State) → c .m .up ≤ H-units
-    → Smallest (certifies c (concluded c s .angle)) widths (concluded c s .j)
+    → Smallest (certifies c (natAbs (concluded c s .angle))) widths (concluded c s .j)
 unfolding concluded
 concluded-smallest c s mean = certified c (brought (s .angle)) mean (brought-within (s .angle))
 
 pub concluded-true : (g : Given) (s : State) → cellOf g .m .up ≤ H-units
-    → let r = concluded (cellOf g) s in LowerExact (exactOf g) (lowAt (r .angle) (r .j)) × UpperExact (exactOf g) (highAt (r .angle) (r .j))
+    → let r = concluded (cellOf g) s in
+    ExactAt false g (lowAt (natAbs (r .angle)) (r .j)) × ExactAt true g (highAt (natAbs (r .angle)) (r .j))
 unfolding concluded
 concluded-true g s mean =
     ends-true g (brought (s .angle)) (concluded (cellOf g) s .j) (brought-within (s .angle)) (concluded-smallest (cellOf g) s mean .here)

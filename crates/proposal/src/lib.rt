@@ -3,7 +3,7 @@ ghost use mathlib.Core.Path.{_≡_};
 ghost use Prim.Native.Nat.{_^_, _<_};
 ghost use Rattle.orbit.specs.Given.{grid};
 ghost use Rattle.proposal.specs.Certify.{widths, certifies, certificate};
-ghost use Rattle.proposal.specs.Propose.{concluded, proposalRule};
+ghost use Rattle.proposal.specs.Propose.{concluded, mirrorProposal, proposalRule};
 ghost use Rattle.proposal.specs.Ready.{Triable, Concludable};
 use grid::Angle;
 use grid::Depth;

@@ -1,15 +1,20 @@
 -- From a binary64 number to whole units, R41, or the code of one that is off range, R5.
 use Prim.Native.Nat.{ℕ, _*_}
-use mathlib.Core.Bool.{Bool, true, _&&_, cond}
+use mathlib.Core.Bool.{Bool, true, false, _&&_, cond}
 use mathlib.Core.List.{[], _∷_}
 use lib.Dec.{ltb}
-use lib.Ieee.{Float, nan, inf, fin}
+use lib.Ieee.{Float, nan, inf, fin, neg}
 use lib.Ieee.Positive.{num, den}
 use Rattle.whole.specs.Round.{down, up}
 use Rattle.grid.specs.Grid.{one, T-units}
 use Rattle.grid.specs.Codes.{Code, Check, number, done, or, checked, bad-estimate}
 use Rattle.units.specs.declared.Units.{Units}
 use Rattle.units.specs.declared.CodedUnits.{CodedUnits}
+
+-- R59: a double, or on the mirror its negative
+abbrev pub mirrorDouble : Bool → Float → Float
+mirrorDouble false x = x
+mirrorDouble true x = neg x
 
 -- R41: a finite number is num / den in size, so it is exactly product / den units
 abbrev pub product : Float → ℕ

@@ -1,6 +1,6 @@
 // From a double to whole units of 2^-28: the floor and the ceiling.
 ghost use mathlib.Core.Path.{_≡_};
-ghost use Rattle.units.specs.Units.{mirrorEstimate, codedUnits};
+ghost use Rattle.units.specs.Units.{mirrorDouble, codedUnits};
 use grid::Eccentricity;
 use grid::codes;
 
@@ -19,9 +19,9 @@ pub struct CodedUnits {
 // 2^28, the units in one radian.
 const RADIAN: f64 = Eccentricity::ONE as f64;
 
-// R59: an estimate, or its mirror.
+// R59: a double, or on the mirror its negative.
 pub fn mirror(value: f64, mirrored: bool) -> f64
-    ensures { λ r. ⌜ r ≡ mirrorEstimate mirrored value ⌝ }
+    ensures { λ r. ⌜ r ≡ mirrorDouble mirrored value ⌝ }
 {
     if mirrored { -value } else { value }
 }

@@ -2,7 +2,7 @@
 -- what was written. Assumes nothing.
 use mathlib.Core.Path.{_≡_, refl, sym, ap, _∙_}
 use mathlib.Core.Bool.{Bool, true, false, not, true≢false}
-use Prim.Native.Nat.{ℕ, zero, suc, _+_, _≤_, zero-le}
+use Prim.Native.Nat.{ℕ, zero, suc, _+_, _≤_, _<_, zero-le}
 use borrow.Author.Tests.{le-ltb}
 use native.Mathlib.Omega.{arith}
 use lib.IntN.{ℤ, pos, negsuc, negℤ, natAbs, _+ℤ_, _-ℤ_}
@@ -74,6 +74,10 @@ held-sum h k = rw (read h, read k) (let f = sum-fits h k in (f, toZ-ofZ f))
 
 pub held-less : {y z : ℤ} → Roomy y → Roomy z → Held (toZ w64 (ofZ w64 y) -ℤ toZ w64 (ofZ w64 z)) (y -ℤ z)
 held-less h k = rw (read h, read k) (let f = sum-fits h (roomy-neg k) in (f, toZ-ofZ f))
+
+-- a number of size below 2^31 fits an i32
+pub narrow-fits : {z : ℤ} → natAbs z < 2147483648 → SFits w32 z
+narrow-fits {z} h = record { sfits = omega (arith, mag-size z) }
 
 -- an i32 that is widened
 pub roomy-32 : {z : ℤ} → SFits w32 z → Roomy z

@@ -2,14 +2,16 @@
 use mathlib.Core.Path.{_≡_, refl, sym, ap, subst, _∙_}
 use native.Mathlib.Omega.{arith}
 use borrow.Author.Needs.{needs}
+use mir.Facts.{toZ-ofZ}
 use Rattle.grid.proofs.Refuses.{Says}
 use Rattle.orbit.specs.Cell.{CellIn}
-use Rattle.orbit.specs.Given.{Given, grid, checksOf, cellOf, cellWith}
+use Rattle.orbit.specs.Given.{Given, grid, checksOf, mirroredOf, cellOf, cellWith}
 use Rattle.orbit.specs.declared.CodedCell.{CodedCell}
 use Rattle.orbit.proofs.Posed.{cells, cell-in}
 use Rattle.rotations.specs.Room.{RoomyState}
+use Rattle.rotations.specs.declared.State.{State}
 use Rattle.rotations.proofs.CodeReach.{rotated-roomy}
-use Rattle.proposal.specs.Propose.{concluded, proposed, proposalRule}
+use Rattle.proposal.specs.Propose.{concluded, proposed, mirrorProposal, proposalRule}
 use Rattle.proposal.proofs.Proposed.{proposals}
 use Rattle.proposal.proofs.propose.Statement.{statement}
 use Rattle.proposal.proofs.propose.Tie as tie
@@ -17,8 +19,8 @@ use Rattle.proposal.proofs.propose.Tie as tie
 abbrev given : tie.After-new → Given
 given c = grid (c .before .args .m) (c .before .args .a)
 
-said : (c : tie.After-new) → Says (checksOf (given c)) (c .new .result .code) (c .new .result ≡ cellWith 0 (cellOf (given c)))
-said c = cells (given c) .says _ (c .new .ensures)
+said : (c : tie.After-new) → Says (checksOf (given c)) (c .new .result .code) (c .new .result ≡ cellWith 0 (mirroredOf (given c)) (cellOf (given c)))
+said c = cells (given c) .says _ (rw (toZ-ofZ (c .before .fits .m)) at (c .new .ensures))
 
 within : (c : tie.Else1) → CellIn (c .before .before .new .result .cell)
 within c =
@@ -45,8 +47,8 @@ returns-2 c =
     let e = c .before .before .before .before .before in
     let n = e .before .before in
     proposals (given n) .given-by (said n .code-is) (e .if1 .left) _
-    (c .conclude .ensures ∙ ap (concluded _) (c .before .rotate .ensures)
-    ∙ ap (λ (r : CodedCell). proposed (r .cell)) (said n .made (e .if1 .left)))
+    (c .conclude .ensures ∙ ap (λ (s : State). mirrorProposal (n .new .result .mirrored) (concluded (n .new .result .cell) s)) (c .before .rotate .ensures)
+    ∙ ap (λ (r : CodedCell). mirrorProposal (r .mirrored) (proposed (r .cell))) (said n .made (e .if1 .left)))
 
 pub propose-spec : {M : Type 1} → statement M
 propose-spec = tie.close (tie.spec (λ c κs. search needs) returns rotate-requires conclude-requires returns-2)
