@@ -56,14 +56,17 @@ static volatile uint64_t kept;
 #define UPPER(P)                                                            \
         sum += P##_upper_end(angles[i], anomalies[i], eccentricities[i],    \
                              DEPTH).accepted;
-#define ENCLOSE(P) {                                                        \
+#define ENCLOSE_OF(P, M) {                                                  \
         struct stripeawn_enclosure r =                                      \
-            P##_enclose(anomalies[i], eccentricities[i], DEPTH);            \
-        sum += (uint64_t)r.a * 3 + r.b; }
+            P##_enclose(M, eccentricities[i], DEPTH);                       \
+        sum += (uint64_t)r.lower * 3 + (uint64_t)r.upper; }
+#define ENCLOSE(P) ENCLOSE_OF(P, anomalies[i])
+#define ENCLOSE_MIRRORED(P) ENCLOSE_OF(P, -anomalies[i])
 #define PROPOSE(P) {                                                        \
         struct stripeawn_proposal r =                                       \
             P##_propose(anomalies[i], eccentricities[i]);                   \
-        sum += r.angle + (uint64_t)r.e_sin + (uint64_t)r.e_cos + r.j; }
+        sum += (uint64_t)r.angle + (uint64_t)r.e_sin +                      \
+               (uint64_t)r.e_cos + r.j; }
 #define JUDGE(P)                                                            \
         sum += P##_judge(anomalies[i], eccentricities[i], estimates[i],     \
                          TOLERANCE, DEPTH).verdict;
@@ -72,6 +75,7 @@ BOTH_SIDES(sine, SINE)
 BOTH_SIDES(lower, LOWER)
 BOTH_SIDES(upper, UPPER)
 BOTH_SIDES(enclose, ENCLOSE)
+BOTH_SIDES(enclose_mirrored, ENCLOSE_MIRRORED)
 BOTH_SIDES(propose, PROPOSE)
 BOTH_SIDES(judge, JUDGE)
 
@@ -141,6 +145,8 @@ static void measure_all(long rounds)
     measure("lower_end", library_lower, plain_lower_pass, rounds);
     measure("upper_end", library_upper, plain_upper_pass, rounds);
     measure("enclose", library_enclose, plain_enclose_pass, rounds);
+    measure("enclose, M < 0", library_enclose_mirrored,
+            plain_enclose_mirrored_pass, rounds);
     measure("propose", library_propose, plain_propose_pass, rounds);
     measure("judge", library_judge, plain_judge_pass, rounds);
     measure("judge_claims, a claim", library_batch, plain_batch_pass, rounds);

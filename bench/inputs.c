@@ -6,7 +6,8 @@
 #include "inputs.h"
 #include "plain.h"
 
-uint32_t anomalies[INPUTS], eccentricities[INPUTS], angles[INPUTS];
+int32_t anomalies[INPUTS], angles[INPUTS];
+uint32_t eccentricities[INPUTS];
 double estimates[INPUTS];
 uint8_t claims[STRIPEAWN_CLAIM_BYTES * INPUTS];
 
@@ -21,13 +22,13 @@ static uint32_t draw(uint32_t limit)
     return (uint32_t)((state >> 32) % ((uint64_t)limit + 1));
 }
 
-static void put_claim(uint8_t *record, int i)
+void put_claim(uint8_t *record, int32_t m, uint32_t a, double estimate)
 {
     uint16_t n = TOLERANCE;
 
-    memcpy(record, &anomalies[i], 4);
-    memcpy(record + 4, &eccentricities[i], 4);
-    memcpy(record + 8, &estimates[i], 8);
+    memcpy(record, &m, 4);
+    memcpy(record + 4, &a, 4);
+    memcpy(record + 8, &estimate, 8);
     memcpy(record + 16, &n, 2);
     record[18] = DEPTH;
     record[19] = 0;
@@ -38,11 +39,11 @@ void make_inputs(void)
     int i;
 
     for (i = 0; i < INPUTS; i++) {
-        anomalies[i] = draw(STRIPEAWN_M_MAX - 1000);
-        eccentricities[i] = draw(STRIPEAWN_A_MAX);
-        angles[i] =
-            plain_enclose(anomalies[i], eccentricities[i], DEPTH).a + draw(20);
-        estimates[i] = (angles[i] + draw(200)) * STRIPEAWN_UNIT;
-        put_claim(claims + STRIPEAWN_CLAIM_BYTES * i, i);
+        int32_t m = anomalies[i] = (int32_t)draw(STRIPEAWN_M_MAX - 1000);
+        uint32_t a = eccentricities[i] = draw(STRIPEAWN_A_MAX);
+
+        angles[i] = plain_enclose(m, a, DEPTH).lower + (int32_t)draw(20);
+        estimates[i] = (angles[i] + (int32_t)draw(200)) * STRIPEAWN_UNIT;
+        put_claim(claims + STRIPEAWN_CLAIM_BYTES * i, m, a, estimates[i]);
     }
 }

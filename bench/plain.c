@@ -2,9 +2,10 @@
 ** plain.c: the rules of the library in plain C, the measure for bench.c.
 **
 ** Written to be read beside the rules: two running terms for sine, two
-** binary searches for an enclosure, fifty rotations for a proposal.
+** binary searches for an enclosure, fifty rotations for a proposal. All this
+** is for M not below 0; plain_mirror.c has the entries for every M.
 */
-#include "plain.h"
+#include "unmirrored.h"
 
 #define UNIT INT64_C(268435456)
 
@@ -83,13 +84,19 @@ static uint32_t orbit_code(uint32_t m, uint32_t a, uint32_t depth)
     return 0;
 }
 
+/* The same, and code 10 after them. */
+static uint32_t angle_code(uint32_t x, uint32_t m, uint32_t a, uint32_t depth)
+{
+    uint32_t code = orbit_code(m, a, depth);
+
+    return code == 0 && x > STRIPEAWN_X_MAX ? 10 : code;
+}
+
 struct stripeawn_bounds plain_sine(uint32_t x, uint32_t depth)
 {
-    struct stripeawn_bounds answer = { orbit_code(0, 0, depth), 0, 0 };
+    struct stripeawn_bounds answer = { angle_code(x, 0, 0, depth), 0, 0 };
     struct series s;
 
-    if (answer.code == 0 && x > STRIPEAWN_X_MAX)
-        answer.code = 10;
     if (answer.code != 0)
         return answer;
     s = bounds(x, depth);
@@ -98,25 +105,21 @@ struct stripeawn_bounds plain_sine(uint32_t x, uint32_t depth)
     return answer;
 }
 
-struct stripeawn_end plain_lower_end(uint32_t x, uint32_t m, uint32_t a,
-                                     uint32_t depth)
+struct stripeawn_end unmirrored_lower_end(uint32_t x, uint32_t m, uint32_t a,
+                                          uint32_t depth)
 {
-    struct stripeawn_end answer = { orbit_code(m, a, depth), 0 };
+    struct stripeawn_end answer = { angle_code(x, m, a, depth), 0 };
 
-    if (answer.code == 0 && x > STRIPEAWN_X_MAX)
-        answer.code = 10;
     if (answer.code == 0)
         answer.accepted = (uint32_t)lower(x, m, a, depth);
     return answer;
 }
 
-struct stripeawn_end plain_upper_end(uint32_t x, uint32_t m, uint32_t a,
-                                     uint32_t depth)
+struct stripeawn_end unmirrored_upper_end(uint32_t x, uint32_t m, uint32_t a,
+                                          uint32_t depth)
 {
-    struct stripeawn_end answer = { orbit_code(m, a, depth), 0 };
+    struct stripeawn_end answer = { angle_code(x, m, a, depth), 0 };
 
-    if (answer.code == 0 && x > STRIPEAWN_X_MAX)
-        answer.code = 10;
     if (answer.code == 0)
         answer.accepted = (uint32_t)upper(x, m, a, depth);
     return answer;
@@ -154,8 +157,8 @@ static uint32_t search_upper(uint32_t m, uint32_t a, uint32_t depth)
     return q;
 }
 
-struct stripeawn_enclosure plain_enclose(uint32_t m, uint32_t a,
-                                         uint32_t depth)
+struct stripeawn_enclosure unmirrored_enclose(uint32_t m, uint32_t a,
+                                              uint32_t depth)
 {
     struct stripeawn_enclosure answer = { orbit_code(m, a, depth), 0, 0 };
 
@@ -163,8 +166,8 @@ struct stripeawn_enclosure plain_enclose(uint32_t m, uint32_t a,
         answer.code = 6;
     if (answer.code != 0)
         return answer;
-    answer.a = search_lower(m, a, depth);
-    answer.b = search_upper(m, a, depth);
+    answer.lower = (int32_t)search_lower(m, a, depth);
+    answer.upper = (int32_t)search_upper(m, a, depth);
     return answer;
 }
 
@@ -196,7 +199,7 @@ static uint32_t certificate(uint32_t x, uint32_t m, uint32_t a)
     return j;
 }
 
-struct stripeawn_proposal plain_propose(uint32_t m, uint32_t a)
+struct stripeawn_proposal unmirrored_propose(uint32_t m, uint32_t a)
 {
     struct stripeawn_proposal answer = { orbit_code(m, a, 5), 0, 0, 0, 0 };
     int64_t e = 0, x = (int64_t)a * GAIN / UNIT, y = 0;
@@ -216,12 +219,12 @@ struct stripeawn_proposal plain_propose(uint32_t m, uint32_t a)
     }
     if (e < 0)
         e = 0;
-    if (e > (int64_t)STRIPEAWN_X_MAX)
+    if (e > STRIPEAWN_X_MAX)
         e = STRIPEAWN_X_MAX;
-    answer.angle = (uint32_t)e;
+    answer.angle = (int32_t)e;
     answer.e_sin = y;
     answer.e_cos = x;
-    answer.j = certificate(answer.angle, m, a);
+    answer.j = certificate((uint32_t)e, m, a);
     return answer;
 }
 
@@ -246,8 +249,9 @@ static uint32_t verdict(uint32_t m, uint32_t a, double estimate, uint32_t n,
     return 18;
 }
 
-struct stripeawn_verdict plain_judge(uint32_t m, uint32_t a, double estimate,
-                                     uint32_t n, uint32_t depth)
+struct stripeawn_verdict unmirrored_judge(uint32_t m, uint32_t a,
+                                          double estimate, uint32_t n,
+                                          uint32_t depth)
 {
     struct stripeawn_verdict answer = { orbit_code(m, a, depth), 0 };
 

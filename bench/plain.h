@@ -11,18 +11,18 @@
 
 struct stripeawn_bounds plain_sine(uint32_t x, uint32_t depth);
 
-struct stripeawn_end plain_lower_end(uint32_t x, uint32_t m, uint32_t a,
+struct stripeawn_end plain_lower_end(int32_t x, int32_t m, uint32_t a,
                                      uint32_t depth);
 
-struct stripeawn_end plain_upper_end(uint32_t x, uint32_t m, uint32_t a,
+struct stripeawn_end plain_upper_end(int32_t x, int32_t m, uint32_t a,
                                      uint32_t depth);
 
-struct stripeawn_enclosure plain_enclose(uint32_t m, uint32_t a,
+struct stripeawn_enclosure plain_enclose(int32_t m, uint32_t a,
                                          uint32_t depth);
 
-struct stripeawn_proposal plain_propose(uint32_t m, uint32_t a);
+struct stripeawn_proposal plain_propose(int32_t m, uint32_t a);
 
-struct stripeawn_verdict plain_judge(uint32_t m, uint32_t a, double estimate,
+struct stripeawn_verdict plain_judge(int32_t m, uint32_t a, double estimate,
                                      uint32_t n, uint32_t depth);
 
 struct stripeawn_batch plain_judge_claims(const uint8_t *claims,

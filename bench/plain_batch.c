@@ -25,7 +25,7 @@ static uint8_t answer_of(const uint8_t *record)
     if (record[19] != 0)
         return 9;
     memcpy(&estimate, &bits, sizeof estimate);
-    v = plain_judge((uint32_t)number(record, 4),
+    v = plain_judge((int32_t)number(record, 4),
                     (uint32_t)number(record + 4, 4), estimate,
                     (uint32_t)number(record + 16, 2), record[18]);
     return (uint8_t)(v.code != 0 ? v.code : v.verdict);

@@ -5,8 +5,9 @@
 
 int main(void)
 {
-    uint32_t m = 100000000, a = 241591910; /* M = 0.37253 rad, e = 0.9 */
-    double estimate = 1.21669;             /* what some solver found */
+    int32_t m = 100000000;     /* M = 0.37253 rad */
+    uint32_t a = 241591910;    /* e = 0.9 */
+    double estimate = 1.21669; /* what some solver found */
     struct stripeawn_enclosure e = stripeawn_enclose(m, a, 5);
     struct stripeawn_verdict v = stripeawn_judge(m, a, estimate, 100, 5);
 
@@ -17,9 +18,9 @@ int main(void)
     }
     printf("M = %.8f rad, e = %.8f\n", m * STRIPEAWN_UNIT,
            (double)a / STRIPEAWN_A_MAX);
-    printf("E lies between %.8f and %.8f rad: %u to %u units\n",
-           e.a * STRIPEAWN_UNIT, e.b * STRIPEAWN_UNIT, (unsigned)e.a,
-           (unsigned)e.b);
+    printf("E lies between %.8f and %.8f rad: %ld to %ld units\n",
+           e.lower * STRIPEAWN_UNIT, e.upper * STRIPEAWN_UNIT, (long)e.lower,
+           (long)e.upper);
     printf("%.8f rad, give or take 100 units: %s\n", estimate,
            stripeawn_name(v.verdict));
     return 0;

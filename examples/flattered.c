@@ -21,7 +21,8 @@ enum { ORBITS = 100000, TOLERANCE = 1000, ROWS = 4 };
 
 /* One orbit, the loop's answer, and what the library says of it. */
 struct row {
-    uint32_t m, a;
+    int32_t m;
+    uint32_t a;
     double estimate, residual; /* units */
     struct stripeawn_enclosure root;
     uint32_t verdict;
@@ -63,9 +64,9 @@ static int newton(double m, double e, double *estimate, double *residual)
 
 static double outside(double estimate, struct stripeawn_enclosure root)
 {
-    if (estimate < root.a)
-        return root.a - estimate;
-    return estimate > root.b ? estimate - root.b : 0;
+    if (estimate < root.lower)
+        return root.lower - estimate;
+    return estimate > root.upper ? estimate - root.upper : 0;
 }
 
 /* Solves the row's orbit and has the answer judged; 0 where that failed. */
@@ -91,9 +92,9 @@ static int solve(struct row *row)
 /* What is 'at least' so much is rounded down. */
 static void print_row(const struct row *row)
 {
-    printf("%4u  %9u  %10.1f  %8.3f  %7u to %-7u  %-9s  %7.0f\n",
-           (unsigned)row->m, (unsigned)row->a, row->estimate, row->residual,
-           (unsigned)row->root.a, (unsigned)row->root.b,
+    printf("%4ld  %9lu  %10.1f  %8.3f  %7ld to %-7ld  %-9s  %7.0f\n",
+           (long)row->m, (unsigned long)row->a, row->estimate, row->residual,
+           (long)row->root.lower, (long)row->root.upper,
            stripeawn_name(row->verdict), floor(row->off));
 }
 
@@ -112,7 +113,7 @@ static struct tally run(uint32_t m_limit, uint32_t a_greatest,
         struct row row;
         int wrong;
 
-        row.m = draw(m_limit);
+        row.m = (int32_t)draw(m_limit);
         row.a = a_greatest - draw(a_limit);
         if (!solve(&row))
             continue;

@@ -3,13 +3,19 @@
 **
 ** M is the mean anomaly, E the eccentric anomaly, e the eccentricity, from
 ** the circle (e = 0) to the parabolic limit (e = 1). Whatever solver found
-** an E, this library says what is certain about it.
+** an E, this library says what is certain about it. M and E are signed and
+** have the same sign: both are below 0 before perigee and 0 at perigee.
 **
 ** Units. An angle is a whole number of units of 2^-28 radian. One unit is
 ** 2.1344e-7 degrees, or 0.00076840 arcseconds. The eccentricity is A / 2^28
 ** for a whole number A. M and A are taken as exact: every answer is about
 ** the equation with just these two numbers. Rounding another M or e to the
 ** grid is the caller's step, and it moves the root.
+**
+** Sides. Angles and estimates are given on M's side of 0. One opposes M where
+** it is above 0 and M below 0, or below 0 and M is not; 0 opposes nothing,
+** nor does either zero of a double. The size of a number is that number
+** without its sign.
 **
 ** Ends. A lower end X is accepted when whole-number bounds of sine show that
 ** X - M <= e sin X, so that the root is not below X. An upper end X is
@@ -21,12 +27,22 @@
 ** with S9 and S10 the Taylor sums of sine up to degree 19 and 21. An end
 ** that is not accepted says nothing: a greater depth may accept it.
 **
+** Mirror. A negative M is the problem of -M: what is given beside it is
+** mirrored first, and what is answered is mirrored back. With a and b the
+** ends that enclose the root of -M, those of M are -b and -a. X is tested as
+** -X with -M, where lower and upper are exchanged and, as the sums are odd,
+** S9 and S10 with them. So for M below 0 accepted ends meet
+**
+**     X - M <= e S10(X)  (lower)    and    X - M >= e S9(X)  (upper)
+**
+** and the two inequalities above as well, since S10(X) <= S9(X) for X <= 0.
+**
 ** Depth. How many pairs of Taylor terms the bounds use, 1 to 5. Use depth 5
 ** unless you measure: a smaller one may be faster and says less. What one
 ** depth accepts every greater depth accepts. At depth 5 an end is refused
-** only where its exact inequality fails or has less than 32 e units to
-** spare. No accepted lower end lies above an accepted upper end of the same
-** M and A, whatever the two depths.
+** only where its exact inequality, the one for M's sign, fails or has less
+** than 32 e units to spare. No accepted lower end lies above an accepted
+** upper end of the same M and A, whatever the two depths.
 **
 ** Notes on every entry:
 ** 1) A result begins with a code. With a code other than 0 every other
@@ -40,6 +56,8 @@
 ** 4) The entries that take an estimate want the processor's usual handling
 **    of subnormal doubles. A program linked with -ffast-math may have them
 **    read as zeros; the judge then sees another estimate than the one meant.
+** 5) An unsigned M from 3451652440 (2^32 - H) up, which versions before 0.3
+**    refuse with code 1, reads as a negative M, in a record too.
 */
 #ifndef STRIPEAWN_INCLUDED
 #define STRIPEAWN_INCLUDED
@@ -53,19 +71,19 @@ extern "C" {
 
 /* Version. */
 #define STRIPEAWN_VERSION_MAJOR 0
-#define STRIPEAWN_VERSION_MINOR 2
+#define STRIPEAWN_VERSION_MINOR 3
 #define STRIPEAWN_VERSION_PATCH 0
-#define STRIPEAWN_VERSION "0.2.0"
+#define STRIPEAWN_VERSION "0.3.0"
 
-/* Limits: the greatest value taken. */
-#define STRIPEAWN_M_MAX 843314856u    /* H, the whole part of pi 2^28      */
-#define STRIPEAWN_X_MAX 843314920u    /* T = H + 64, a tested angle        */
+/* Limits: the greatest value taken. M goes down to -H, and X to -T. */
+#define STRIPEAWN_M_MAX 843314856     /* H, the whole part of pi 2^28      */
+#define STRIPEAWN_X_MAX 843314920     /* T = H + 64, a tested angle        */
 #define STRIPEAWN_A_MAX 268435456u    /* 2^28, which is eccentricity one   */
 #define STRIPEAWN_DEPTH_MAX 5u        /* the least depth is 1              */
 #define STRIPEAWN_N_MAX 65535u        /* tolerance, in units               */
 
 /* Sizes. */
-#define STRIPEAWN_RADIAN 268435456u   /* units in one radian, 2^28         */
+#define STRIPEAWN_RADIAN 268435456    /* units in one radian, 2^28         */
 #define STRIPEAWN_UNIT (1.0 / 268435456.0) /* radians in one unit, exact   */
 #define STRIPEAWN_CLAIM_BYTES 20u     /* size of a claim record            */
 
@@ -75,19 +93,21 @@ extern "C" {
 ** 10, 4, 5, 6; in a batch, 7 and then 8 come before any record is read.
 */
 #define STRIPEAWN_DONE 0u             /* done                              */
-#define STRIPEAWN_BAD_M 1u            /* M above H                         */
+#define STRIPEAWN_BAD_M 1u            /* size of M above H                 */
 #define STRIPEAWN_BAD_A 2u            /* A above 2^28                      */
 #define STRIPEAWN_BAD_DEPTH 3u        /* depth not 1 to 5                  */
-#define STRIPEAWN_BAD_ESTIMATE 4u     /* estimate NaN, infinite, below     */
-                                      /*   zero or above T units           */
+#define STRIPEAWN_BAD_ESTIMATE 4u     /* estimate NaN, infinite, opposing  */
+                                      /*   M, or of size above T units     */
 #define STRIPEAWN_BAD_N 5u            /* N above 65535                     */
 #define STRIPEAWN_NO_UPPER_END 6u     /* enclosure: T is not accepted as   */
-                                      /*   an upper end at this depth      */
+                                      /*   an upper end at this depth, or  */
+                                      /*   -T as a lower one (M below 0)   */
 #define STRIPEAWN_BAD_LENGTH 7u       /* claims length no multiple of 20   */
 #define STRIPEAWN_SHORT_ANSWERS 8u    /* answers buffer shorter than the   */
                                       /*   number of claims                */
 #define STRIPEAWN_BAD_RESERVED 9u     /* reserved byte of a claim not zero */
-#define STRIPEAWN_BAD_X 10u           /* angle X above T                   */
+#define STRIPEAWN_BAD_X 10u           /* angle X opposing M, or of size    */
+                                      /*   above T                         */
 
 /* Verdicts, on an estimate and a tolerance of N units. */
 #define STRIPEAWN_CONFIRMED 16u       /* the root is within N units of it  */
@@ -108,16 +128,16 @@ static inline const char *stripeawn_name(uint32_t number)
 {
     switch (number) {
     case STRIPEAWN_DONE: return "done";
-    case STRIPEAWN_BAD_M: return "M too large";
+    case STRIPEAWN_BAD_M: return "M out of range";
     case STRIPEAWN_BAD_A: return "A too large";
     case STRIPEAWN_BAD_DEPTH: return "depth not 1 to 5";
     case STRIPEAWN_BAD_ESTIMATE: return "estimate out of range";
     case STRIPEAWN_BAD_N: return "N too large";
-    case STRIPEAWN_NO_UPPER_END: return "no upper end at this depth";
+    case STRIPEAWN_NO_UPPER_END: return "no enclosure at this depth";
     case STRIPEAWN_BAD_LENGTH: return "claims length no multiple of 20";
     case STRIPEAWN_SHORT_ANSWERS: return "answers buffer too short";
     case STRIPEAWN_BAD_RESERVED: return "reserved byte not zero";
-    case STRIPEAWN_BAD_X: return "angle X too large";
+    case STRIPEAWN_BAD_X: return "angle X out of range";
     case STRIPEAWN_CONFIRMED: return "Confirmed";
     case STRIPEAWN_REFUTED: return "Refuted";
     case STRIPEAWN_UNDECIDED: return "Undecided";
@@ -138,12 +158,12 @@ struct stripeawn_end {
 
 struct stripeawn_enclosure {
     uint32_t code;
-    uint32_t a, b;                    /* lower and upper end, units        */
+    int32_t lower, upper;             /* the two ends, units               */
 };
 
 struct stripeawn_proposal {
     uint32_t code;
-    uint32_t angle;                   /* proposed E, units, 0 to T         */
+    int32_t angle;                    /* proposed E, units, -T to T        */
     int64_t e_sin, e_cos;             /* near e sin E and e cos E, units   */
     uint32_t j;                       /* certificate, 0 to 30              */
 };
@@ -184,46 +204,52 @@ struct stripeawn_bounds stripeawn_sine(uint32_t x, uint32_t depth);
 ** stripeawn_upper_end: is the root certainly not above x?
 **
 ** Given:
-**    x       angle to test, units, 0 to T
-**    m       M, units, 0 to H
+**    x       angle to test, units, 0 to T; where m is below 0, -T to 0
+**    m       M, units, -H to H
 **    a       A, 0 to 2^28
 **    depth   1 to 5
 ** Returned:
-**    accepted   lower: 1 where 2^28 (x - m) <= a lo, otherwise 0
-**               upper: 1 where 2^28 (x - m) >= a hi, otherwise 0
-**               (lo and hi as stripeawn_sine gives them at x)
+**    accepted   1 where the test holds, otherwise 0
+**                        m not below 0           m below 0
+**               lower:   2^28 (x - m) <= a lo    2^28 (x - m) <= -a hi
+**               upper:   2^28 (x - m) >= a hi    2^28 (x - m) >= -a lo
+**               (lo and hi as stripeawn_sine gives them at the size of x)
 ** Status:
-**    1 = M above H
+**    1 = size of M above H
 **    2 = A above 2^28
 **    3 = depth not 1 to 5
-**    10 = x above T
+**    10 = x opposing M, or of size above T
 **    0 = done
 ** Notes:
-** 1) As a lower end 0 is always accepted and T never.
+** 1) As a lower end 0 is always accepted and T never; where m is below 0,
+**    as an upper end 0 is always accepted and -T never.
 ** 2) Both ends may be accepted at one angle, which is then the root, or
 **    neither. The accepted angles need not be one unbroken run.
 */
-struct stripeawn_end stripeawn_lower_end(uint32_t x, uint32_t m, uint32_t a,
+struct stripeawn_end stripeawn_lower_end(int32_t x, int32_t m, uint32_t a,
                                          uint32_t depth);
 
-struct stripeawn_end stripeawn_upper_end(uint32_t x, uint32_t m, uint32_t a,
+struct stripeawn_end stripeawn_upper_end(int32_t x, int32_t m, uint32_t a,
                                          uint32_t depth);
 
 /*
 ** stripeawn_enclose: two angles with the root between them.
 **
 ** Given:
-**    m       M, units, 0 to H
+**    m       M, units, -H to H
 **    a       A, 0 to 2^28
 **    depth   1 to 5
 ** Returned:
-**    a       an accepted lower end, where a + 1 is not accepted
-**    b       an accepted upper end, where b - 1 is not accepted or b is 0
+**    lower   an accepted lower end, where lower + 1 is not accepted or, with
+**            m below 0, lower is 0
+**    upper   an accepted upper end, where upper - 1 is not accepted or, with
+**            m not below 0, upper is 0
 ** Status:
-**    1 = M above H
+**    1 = size of M above H
 **    2 = A above 2^28
 **    3 = depth not 1 to 5
-**    6 = T is not accepted as an upper end at this depth
+**    6 = T is not accepted as an upper end at this depth, or -T as a lower
+**        one where m is below 0
 **    0 = done
 ** Notes:
 ** 1) Depths 4 and 5 never answer 6.
@@ -233,50 +259,54 @@ struct stripeawn_end stripeawn_upper_end(uint32_t x, uint32_t m, uint32_t a,
 **    it: with e close to 1 and M close to 0, one unit more in M moves the
 **    root by many thousands.
 */
-struct stripeawn_enclosure stripeawn_enclose(uint32_t m, uint32_t a,
+struct stripeawn_enclosure stripeawn_enclose(int32_t m, uint32_t a,
                                              uint32_t depth);
 
 /*
 ** stripeawn_propose: a shift-and-add solution, with its certificate.
 **
 ** Given:
-**    m       M, units, 0 to H
+**    m       M, units, -H to H
 **    a       A, 0 to 2^28
 ** Returned:
-**    angle   the proposed E, units, 0 to T
+**    angle   the proposed E, units, 0 to T; where m is below 0, -T to 0
 **    e_sin   near e sin E, units
 **    e_cos   near e cos E, units
 **    j       the root is within 2^j units of angle
 ** Status:
-**    1 = M above H
+**    1 = size of M above H
 **    2 = A above 2^28
 **    0 = done
 ** Notes:
-** 1) j is the smallest number from 0 to 30 for which angle - 2^j, or 0 where
-**    that is below 0, is an accepted lower end and angle + 2^j, or T where
-**    that is above T, an accepted upper end, both at depth 5. One always
-**    exists. Nothing more is promised of how good angle is.
+** 1) j is the smallest number from 0 to 30 for which angle - 2^j is an
+**    accepted lower end and angle + 2^j an accepted upper end, both at depth
+**    5. Where one of them is past the limits of angle, the limit stands for
+**    it. Such a j always exists. Nothing more is promised of how good angle
+**    is.
 ** 2) e_sin and e_cos are what fifty rotations with shifts 0, 0, 1, 1, up to
 **    24, 24 give. No bound of their error is promised.
+** 3) For m below 0 angle and e_sin are those of -m with their signs changed;
+**    e_cos and j are those of -m.
 */
-struct stripeawn_proposal stripeawn_propose(uint32_t m, uint32_t a);
+struct stripeawn_proposal stripeawn_propose(int32_t m, uint32_t a);
 
 /*
 ** stripeawn_judge: is an estimate within n units of the root?
 **
 ** Given:
-**    m          M, units, 0 to H
+**    m          M, units, -H to H
 **    a          A, 0 to 2^28
-**    estimate   angle in radians, 0 to T / 2^28; minus zero counts as 0
+**    estimate   angle in radians, 0 to T / 2^28; where m is below 0,
+**               -T / 2^28 to 0; either zero counts as 0
 **    n          tolerance, units, 0 to 65535
 **    depth      1 to 5
 ** Returned:
 **    verdict    16 Confirmed, 17 Refuted, 18 Undecided
 ** Status:
-**    1 = M above H
+**    1 = size of M above H
 **    2 = A above 2^28
 **    3 = depth not 1 to 5
-**    4 = estimate NaN, infinite, below zero or above T units
+**    4 = estimate NaN, infinite, opposing M, or of size above T units
 **    5 = n above 65535
 **    0 = done
 ** Notes:
@@ -293,13 +323,14 @@ struct stripeawn_proposal stripeawn_propose(uint32_t m, uint32_t a);
 ** 5) After Undecided the enclosure may still decide. Let e be what
 **    stripeawn_enclose gives for the same m and a, with code 0 at any depth,
 **    and x = estimate * STRIPEAWN_RADIAN, which is exact in doubles. Since
-**    the root is not below e.a and not above e.b, it is certainly
-**        more than n units off    if x < e.a - n or x > e.b + n
-**        at most n units off      if x >= e.b - n and x <= e.a + n
-**    Take these four limits as doubles, where they are exact: in unsigned
-**    numbers e.a - n and e.b - n may wrap around.
+**    the root is not below e.lower and not above e.upper, it is certainly
+**        more than n units off    if x < e.lower - n or x > e.upper + n
+**        at most n units off      if x >= e.upper - n and x <= e.lower + n
+**    Take these four limits as doubles, where they are exact: in C an end,
+**    which is signed, becomes unsigned beside an unsigned n, and a limit
+**    below 0 wraps around.
 */
-struct stripeawn_verdict stripeawn_judge(uint32_t m, uint32_t a,
+struct stripeawn_verdict stripeawn_judge(int32_t m, uint32_t a,
                                          double estimate, uint32_t n,
                                          uint32_t depth);
 
@@ -321,7 +352,8 @@ struct stripeawn_verdict stripeawn_judge(uint32_t m, uint32_t a,
 **    8 = answers_len is less than the number of claims
 **    0 = done
 ** Notes:
-** 1) A record has 20 bytes; numbers have their lowest byte first:
+** 1) A record has 20 bytes; numbers have their lowest byte first, and M is in
+**    two's complement:
 **        0 M (4 bytes)    4 A (4)    8 estimate in radians, a double (8)
 **       16 N (2)         18 depth   19 reserved, zero
 ** 2) A bad record is answered by its code byte. It refuses nothing else: the

@@ -9,9 +9,10 @@
 
 #define PAINT 0xA5
 
-/* Some claims with different answers: 16, 17, 18, 9, 1, 2, 3, 4. */
-enum { CLAIMS = 8 };
-static const uint8_t wanted[CLAIMS] = { 16, 17, 18, 9, 1, 2, 3, 4 };
+/* Some claims with different answers, M below 0 in the last ones. */
+enum { CLAIMS = 12 };
+static const uint8_t wanted[CLAIMS] = { 16, 17, 18, 9, 1, 2, 3, 4,
+                                        16, 18, 1,  4 };
 
 static void put_claims(uint8_t *claims)
 {
@@ -23,6 +24,10 @@ static void put_claims(uint8_t *claims)
     put_claim(claims + 100, H, ONE + 1, -1.0, 0, 0, 0);
     put_claim(claims + 120, H, ONE, -1.0, 0, 0, 0);
     put_claim(claims + 140, H, ONE, -1.0, 0, 5, 0);
+    put_claim(claims + 160, -5, 0, 0.0, 5, 1, 0);
+    put_claim(claims + 180, -1, ONE, units(-850000), 1000, 5, 0);
+    put_claim(claims + 200, INT32_MIN, 0, 0.0, 0, 1, 0);
+    put_claim(claims + 220, -H, ONE, 1.0, 0, 5, 0);
 }
 
 /* A call on a painted buffer: code, count and every byte afterwards. */

@@ -1,5 +1,6 @@
 /*
-** check.c: the counting of checks, and one comparison for each entry.
+** check.c: the counting of checks, and one comparison for each entry, which
+** goes on to the mirrored call where M is above 0.
 */
 #include <inttypes.h>
 #include <stdarg.h>
@@ -42,48 +43,59 @@ void sine_is(struct place at, uint32_t x, uint32_t depth, uint32_t code,
           x, depth, got.code, got.lo, got.hi, code, lo, hi);
 }
 
-static void end_is(struct place at, const char *side, const uint32_t in[4],
-                   struct stripeawn_end got, struct stripeawn_end wanted)
+/* The other side of 0; the least number has none and is far off anyway. */
+static int32_t opposite(int32_t number)
 {
+    return number == INT32_MIN ? INT32_MAX : -number;
+}
+
+static void end_is(struct place at, int upper, int32_t x, int32_t m,
+                   uint32_t a, uint32_t depth, struct stripeawn_end wanted)
+{
+    struct stripeawn_end got = upper ? stripeawn_upper_end(x, m, a, depth)
+                                     : stripeawn_lower_end(x, m, a, depth);
+
     check(at, got.code == wanted.code && got.accepted == wanted.accepted,
-          "%s end x=%" PRIu32 " m=%" PRIu32 " a=%" PRIu32 " depth=%" PRIu32
+          "%s end x=%" PRId32 " m=%" PRId32 " a=%" PRIu32 " depth=%" PRIu32
           ": code %" PRIu32 " accepted %" PRIu32 ", wanted %" PRIu32
           " %" PRIu32,
-          side, in[0], in[1], in[2], in[3], got.code, got.accepted,
+          upper ? "upper" : "lower", x, m, a, depth, got.code, got.accepted,
           wanted.code, wanted.accepted);
+    if (m > 0)
+        end_is(at, !upper, opposite(x), -m, a, depth, wanted);
 }
 
-void lower_is(struct place at, uint32_t x, uint32_t m, uint32_t a,
+void lower_is(struct place at, int32_t x, int32_t m, uint32_t a,
               uint32_t depth, uint32_t code, uint32_t accepted)
 {
-    uint32_t in[4] = { x, m, a, depth };
     struct stripeawn_end wanted = { code, accepted };
 
-    end_is(at, "lower", in, stripeawn_lower_end(x, m, a, depth), wanted);
+    end_is(at, 0, x, m, a, depth, wanted);
 }
 
-void upper_is(struct place at, uint32_t x, uint32_t m, uint32_t a,
+void upper_is(struct place at, int32_t x, int32_t m, uint32_t a,
               uint32_t depth, uint32_t code, uint32_t accepted)
 {
-    uint32_t in[4] = { x, m, a, depth };
     struct stripeawn_end wanted = { code, accepted };
 
-    end_is(at, "upper", in, stripeawn_upper_end(x, m, a, depth), wanted);
+    end_is(at, 1, x, m, a, depth, wanted);
 }
 
-void enclosure_is(struct place at, uint32_t m, uint32_t a, uint32_t depth,
-                  uint32_t code, uint32_t low, uint32_t high)
+void enclosure_is(struct place at, int32_t m, uint32_t a, uint32_t depth,
+                  uint32_t code, int32_t lower, int32_t upper)
 {
     struct stripeawn_enclosure got = stripeawn_enclose(m, a, depth);
 
-    check(at, got.code == code && got.a == low && got.b == high,
-          "enclose m=%" PRIu32 " a=%" PRIu32 " depth=%" PRIu32
-          ": code %" PRIu32 " a %" PRIu32 " b %" PRIu32 ", wanted %" PRIu32
-          " %" PRIu32 " %" PRIu32,
-          m, a, depth, got.code, got.a, got.b, code, low, high);
+    check(at, got.code == code && got.lower == lower && got.upper == upper,
+          "enclose m=%" PRId32 " a=%" PRIu32 " depth=%" PRIu32
+          ": code %" PRIu32 " lower %" PRId32 " upper %" PRId32
+          ", wanted %" PRIu32 " %" PRId32 " %" PRId32,
+          m, a, depth, got.code, got.lower, got.upper, code, lower, upper);
+    if (m > 0)
+        enclosure_is(at, -m, a, depth, code, -upper, -lower);
 }
 
-void proposal_is(struct place at, uint32_t m, uint32_t a,
+void proposal_is(struct place at, int32_t m, uint32_t a,
                  struct stripeawn_proposal wanted)
 {
     struct stripeawn_proposal got = stripeawn_propose(m, a);
@@ -92,21 +104,28 @@ void proposal_is(struct place at, uint32_t m, uint32_t a,
           got.code == wanted.code && got.angle == wanted.angle &&
               got.e_sin == wanted.e_sin && got.e_cos == wanted.e_cos &&
               got.j == wanted.j,
-          "propose m=%" PRIu32 " a=%" PRIu32 ": code %" PRIu32
-          " angle %" PRIu32 " e_sin %" PRId64 " e_cos %" PRId64 " j %" PRIu32,
+          "propose m=%" PRId32 " a=%" PRIu32 ": code %" PRIu32
+          " angle %" PRId32 " e_sin %" PRId64 " e_cos %" PRId64 " j %" PRIu32,
           m, a, got.code, got.angle, got.e_sin, got.e_cos, got.j);
+    if (m > 0) {
+        wanted.angle = -wanted.angle;
+        wanted.e_sin = -wanted.e_sin;
+        proposal_is(at, -m, a, wanted);
+    }
 }
 
-void verdict_is(struct place at, uint32_t m, uint32_t a, double estimate,
+void verdict_is(struct place at, int32_t m, uint32_t a, double estimate,
                 uint32_t n, uint32_t depth, uint32_t code, uint32_t verdict)
 {
     struct stripeawn_verdict got = stripeawn_judge(m, a, estimate, n, depth);
 
     check(at, got.code == code && got.verdict == verdict,
-          "judge m=%" PRIu32 " a=%" PRIu32 " estimate=%a n=%" PRIu32
+          "judge m=%" PRId32 " a=%" PRIu32 " estimate=%a n=%" PRIu32
           " depth=%" PRIu32 ": code %" PRIu32 " verdict %" PRIu32
           ", wanted %" PRIu32 " %" PRIu32,
           m, a, estimate, n, depth, got.code, got.verdict, code, verdict);
+    if (m > 0)
+        verdict_is(at, -m, a, -estimate, n, depth, code, verdict);
 }
 
 double from_bits(uint64_t bits)
@@ -125,7 +144,7 @@ uint64_t to_bits(double value)
     return bits;
 }
 
-double units(uint32_t count)
+double units(int32_t count)
 {
     return count / 268435456.0;
 }
@@ -138,10 +157,10 @@ static void put_number(uint8_t *bytes, uint64_t value, int size)
         bytes[i] = (uint8_t)(value >> 8 * i);
 }
 
-void put_claim(uint8_t *record, uint32_t m, uint32_t a, double estimate,
+void put_claim(uint8_t *record, int32_t m, uint32_t a, double estimate,
                uint32_t n, uint32_t depth, uint32_t reserved)
 {
-    put_number(record, m, 4);
+    put_number(record, (uint32_t)m, 4);
     put_number(record + 4, a, 4);
     put_number(record + 8, to_bits(estimate), 8);
     put_number(record + 16, n, 2);

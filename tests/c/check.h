@@ -10,9 +10,11 @@
 #include "stripeawn.h"
 
 /* The limits, as the rules give them. */
-#define H UINT32_C(843314856)
-#define T UINT32_C(843314920)
-#define ONE UINT32_C(268435456)
+#define H INT32_C(843314856)
+#define T INT32_C(843314920)
+#define ONE INT32_C(268435456)
+
+/* The farthest value of an input that has no sign. */
 #define FAR UINT32_MAX
 
 struct place {
@@ -32,18 +34,21 @@ void check(struct place at, int good, const char *format, ...)
 /* Prints how many checks ran and failed; 0 where all is well. */
 int check_report(void);
 
-/* One call each, with every number that it must return. */
+/*
+** One call each, with every number that it must return. Where M is above 0,
+** the mirrored call at -M must return the mirror of these numbers.
+*/
 void sine_is(struct place at, uint32_t x, uint32_t depth, uint32_t code,
              int64_t lo, int64_t hi);
-void lower_is(struct place at, uint32_t x, uint32_t m, uint32_t a,
+void lower_is(struct place at, int32_t x, int32_t m, uint32_t a,
               uint32_t depth, uint32_t code, uint32_t accepted);
-void upper_is(struct place at, uint32_t x, uint32_t m, uint32_t a,
+void upper_is(struct place at, int32_t x, int32_t m, uint32_t a,
               uint32_t depth, uint32_t code, uint32_t accepted);
-void enclosure_is(struct place at, uint32_t m, uint32_t a, uint32_t depth,
-                  uint32_t code, uint32_t low, uint32_t high);
-void proposal_is(struct place at, uint32_t m, uint32_t a,
+void enclosure_is(struct place at, int32_t m, uint32_t a, uint32_t depth,
+                  uint32_t code, int32_t lower, int32_t upper);
+void proposal_is(struct place at, int32_t m, uint32_t a,
                  struct stripeawn_proposal wanted);
-void verdict_is(struct place at, uint32_t m, uint32_t a, double estimate,
+void verdict_is(struct place at, int32_t m, uint32_t a, double estimate,
                 uint32_t n, uint32_t depth, uint32_t code, uint32_t verdict);
 
 /* The double with these bits, and the bits of a double. */
@@ -51,10 +56,10 @@ double from_bits(uint64_t bits);
 uint64_t to_bits(double value);
 
 /* A whole number of units, in radians: exact. */
-double units(uint32_t count);
+double units(int32_t count);
 
 /* Writes a claim record of 20 bytes. */
-void put_claim(uint8_t *record, uint32_t m, uint32_t a, double estimate,
+void put_claim(uint8_t *record, int32_t m, uint32_t a, double estimate,
                uint32_t n, uint32_t depth, uint32_t reserved);
 
 /* The groups of checks, one to a file. */
@@ -66,6 +71,7 @@ void test_enclose(void);
 void test_propose(void);
 void test_judge(void);
 void test_undecided(void);
+void test_mirror(void);
 void test_estimates(void);
 void test_order(void);
 void test_batch(void);

@@ -1,5 +1,5 @@
-// cplusplus.cpp: the header in a C++ program, with a call of every entry.
-// Every code is held to the one that is due, 0 or another.
+// cplusplus.cpp: the header in a C++ program, with calls of every entry for
+// M of either sign. Every code is held to the one that is due, 0 or another.
 #include <cstdio>
 #include <cstring>
 #include <vector>
@@ -33,30 +33,53 @@ static void answered()
     check("sine", s.code, 0, s.lo == 0 && s.hi == 2);
     check("lower_end", l.code, 0, l.accepted == 1);
     check("upper_end", u.code, 0, u.accepted == 0);
-    check("enclose", e.code, 0, e.a == 7 && e.b == 7);
+    check("enclose", e.code, 0, e.lower == 7 && e.upper == 7);
     check("propose", p.code, 0, p.angle == 1048514 && p.e_sin == 1048514 &&
                                     p.e_cos == 268433424 && p.j == 19);
     check("judge", v.code, 0, v.verdict == STRIPEAWN_CONFIRMED);
 }
 
+// The entries that take M, answered for M below 0.
+static void mirrored()
+{
+    stripeawn_end l = stripeawn_lower_end(-1, -2, 0, 1);
+    stripeawn_end u = stripeawn_upper_end(0, -2, 0, 1);
+    stripeawn_enclosure e = stripeawn_enclose(-1, STRIPEAWN_A_MAX, 5);
+    stripeawn_proposal p = stripeawn_propose(-1, STRIPEAWN_A_MAX);
+    stripeawn_verdict v = stripeawn_judge(-7, 0, -7 * STRIPEAWN_UNIT, 0, 5);
+
+    check("lower_end, M < 0", l.code, 0, l.accepted == 0);
+    check("upper_end, M < 0", u.code, 0, u.accepted == 1);
+    check("enclose, M < 0", e.code, 0, e.lower == -952744 &&
+                                           e.upper == -756153);
+    check("propose, M < 0", p.code, 0, p.angle == -1048514 &&
+                                           p.e_sin == -1048514 &&
+                                           p.e_cos == 268433424 && p.j == 19);
+    check("judge, M < 0", v.code, 0, v.verdict == STRIPEAWN_CONFIRMED);
+}
+
 // The same entries, refused.
 static void refused()
 {
-    const uint32_t m = STRIPEAWN_M_MAX, x = STRIPEAWN_X_MAX;
+    const int32_t m = STRIPEAWN_M_MAX, x = STRIPEAWN_X_MAX;
     stripeawn_bounds s = stripeawn_sine(x + 1, 1);
     stripeawn_end l = stripeawn_lower_end(x + 1, m, 0, 1);
     stripeawn_end u = stripeawn_upper_end(x, m + 1, 0, 1);
     stripeawn_enclosure e = stripeawn_enclose(m, STRIPEAWN_A_MAX, 1);
     stripeawn_proposal p = stripeawn_propose(m, STRIPEAWN_A_MAX + 1);
     stripeawn_verdict v = stripeawn_judge(m, 0, -1.0, 0, 5);
+    stripeawn_end opposing = stripeawn_lower_end(1, -m, 0, 1);
+    stripeawn_enclosure least = stripeawn_enclose(INT32_MIN, 0, 1);
 
     check("bad sine", s.code, 10, s.lo == 0 && s.hi == 0);
     check("bad lower_end", l.code, 10, l.accepted == 0);
     check("bad upper_end", u.code, 1, u.accepted == 0);
-    check("bad enclose", e.code, 6, e.a == 0 && e.b == 0);
+    check("bad enclose", e.code, 6, e.lower == 0 && e.upper == 0);
     check("bad propose", p.code, 2, p.angle == 0 && p.e_sin == 0 &&
                                         p.e_cos == 0 && p.j == 0);
     check("bad judge", v.code, 4, v.verdict == 0);
+    check("opposing x", opposing.code, 10, opposing.accepted == 0);
+    check("least M", least.code, 1, least.lower == 0 && least.upper == 0);
 }
 
 // A batch over whole vectors; the data of an empty one may be NULL.
@@ -100,6 +123,7 @@ static void names()
 int main()
 {
     answered();
+    mirrored();
     refused();
     batches();
     names();

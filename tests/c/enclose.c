@@ -6,7 +6,8 @@
 /* A = 0: both ends are M, at every depth. */
 static void test_circle(void)
 {
-    uint32_t m, depth;
+    uint32_t depth;
+    int32_t m;
 
     for (depth = 1; depth <= 5; depth++) {
         for (m = 0; m < 20; m++)
@@ -83,7 +84,8 @@ static void test_no_upper_end(void)
 static void test_limits(void)
 {
     enclosure_is(HERE, H + 1, 0, 5, 1, 0, 0);
-    enclosure_is(HERE, FAR, 0, 5, 1, 0, 0);
+    enclosure_is(HERE, INT32_MAX, 0, 5, 1, 0, 0);
+    enclosure_is(HERE, INT32_MIN, 0, 5, 1, 0, 0);
     enclosure_is(HERE, 0, ONE + 1, 5, 2, 0, 0);
     enclosure_is(HERE, 0, FAR, 5, 2, 0, 0);
     enclosure_is(HERE, 0, 0, 0, 3, 0, 0);
@@ -92,23 +94,31 @@ static void test_limits(void)
     enclosure_is(HERE, 0, 0, FAR, 3, 0, 0);
 }
 
-/* The entries agree: ends are accepted, and one unit further in is not. */
+/* Ends are accepted, and one unit further in is not, or opposes M. */
+static void ends_again(int32_t m, uint32_t a, uint32_t depth)
+{
+    struct stripeawn_enclosure got = stripeawn_enclose(m, a, depth);
+    int32_t above = got.lower + 1, below = got.upper - 1;
+
+    check(HERE, got.code == 0, "no enclosure for m=%ld a=%lu", (long)m,
+          (unsigned long)a);
+    lower_is(HERE, got.lower, m, a, depth, 0, 1);
+    lower_is(HERE, above, m, a, depth, m < 0 && above > 0 ? 10 : 0, 0);
+    upper_is(HERE, got.upper, m, a, depth, 0, 1);
+    upper_is(HERE, below, m, a, depth, m >= 0 && below < 0 ? 10 : 0, 0);
+}
+
+/* The entries agree. */
 static void test_ends_again(void)
 {
-    uint32_t m, a, depth;
+    uint32_t a, depth;
+    int32_t m;
 
     for (m = 0; m <= H; m += 60000011)
         for (a = 0; a <= ONE; a += ONE / 8)
             for (depth = 4; depth <= 5; depth++) {
-                struct stripeawn_enclosure got = stripeawn_enclose(m, a, depth);
-
-                check(HERE, got.code == 0, "no enclosure for m=%lu a=%lu",
-                      (unsigned long)m, (unsigned long)a);
-                lower_is(HERE, got.a, m, a, depth, 0, 1);
-                lower_is(HERE, got.a + 1, m, a, depth, 0, 0);
-                upper_is(HERE, got.b, m, a, depth, 0, 1);
-                if (got.b > 0)
-                    upper_is(HERE, got.b - 1, m, a, depth, 0, 0);
+                ends_again(m, a, depth);
+                ends_again(-m, a, depth);
             }
 }
 

@@ -1,8 +1,9 @@
 /*
-** estimates.c: every kind of double as an estimate.
+** estimates.c: every kind of double as an estimate, on both sides of 0.
 **
 ** With A = 0 the root is M, so that a few verdicts tell the whole numbers
-** just below and just above an estimate, its f and c, one by one.
+** just below and just above an estimate, its f and c, one by one. Each
+** estimate has its mirror judged too, against M below 0.
 */
 #include "check.h"
 
@@ -10,7 +11,7 @@
 #define SIGN UINT64_C(0x8000000000000000)
 
 /* Whole estimate: within 0 units of f and of nothing else. */
-static void whole(struct place at, double estimate, uint32_t f)
+static void whole(struct place at, double estimate, int32_t f)
 {
     verdict_is(at, f, 0, estimate, 0, 1, 0, 16);
     if (f > 0)
@@ -20,7 +21,7 @@ static void whole(struct place at, double estimate, uint32_t f)
 }
 
 /* Between f and f + 1: within 0 units of neither, within 1 of both alone. */
-static void between(struct place at, double estimate, uint32_t f)
+static void between(struct place at, double estimate, int32_t f)
 {
     verdict_is(at, f, 0, estimate, 0, 1, 0, 17);
     verdict_is(at, f + 1, 0, estimate, 0, 1, 0, 17);
@@ -32,16 +33,29 @@ static void between(struct place at, double estimate, uint32_t f)
         verdict_is(at, f + 2, 0, estimate, 1, 1, 0, 17);
 }
 
+/* Refused beside M = 0 and M above it, and its mirror beside M below. */
 static void refused(struct place at, double estimate)
 {
     verdict_is(at, 0, 0, estimate, 0, 1, 4, 0);
+    verdict_is(at, 1, 0, estimate, 0, 1, 4, 0);
     verdict_is(at, H, ONE, estimate, 65535, 5, 4, 0);
 }
 
+/* Either zero is 0 for every M. */
 static void test_zeros(void)
 {
+    static const int32_t anomalies[] = { 0, 1, 2, H };
+    size_t i;
+
     whole(HERE, 0.0, 0);
     whole(HERE, from_bits(SIGN), 0);
+    for (i = 0; i < COUNT(anomalies); i++) {
+        int32_t m = anomalies[i];
+        uint32_t verdict = m <= 1 ? 16 : 17;
+
+        verdict_is(HERE, m, 0, 0.0, 1, 1, 0, verdict);
+        verdict_is(HERE, m, 0, from_bits(SIGN), 1, 1, 0, verdict);
+    }
 }
 
 static void test_subnormals(void)
@@ -59,12 +73,12 @@ static void test_subnormals(void)
 /* Whole units, their halves and the doubles next to them. */
 static void test_on_and_off_grid(void)
 {
-    static const uint32_t counts[] = { 1, 2, 3, 1000, 524288, ONE - 1, ONE,
-                                       ONE + 1, 421657428, H - 2 };
+    static const int32_t counts[] = { 1, 2, 3, 1000, 524288, ONE - 1, ONE,
+                                      ONE + 1, 421657428, H - 2 };
     size_t i;
 
     for (i = 0; i < COUNT(counts); i++) {
-        uint32_t f = counts[i];
+        int32_t f = counts[i];
         uint64_t bits = to_bits(units(f));
 
         whole(HERE, units(f), f);
@@ -104,11 +118,15 @@ static void test_large(void)
     refused(HERE, from_bits(INFINITE));
 }
 
-static void test_below_zero(void)
+/* On the other side of 0 than M; M = 0 takes none below 0. */
+static void test_opposing(void)
 {
+    refused(HERE, -units(1) / 2);
     refused(HERE, -units(1));
     refused(HERE, -1.0);
     refused(HERE, -3.0);
+    refused(HERE, -units(T));
+    refused(HERE, -units(T + 1));
     refused(HERE, -16.0);
     refused(HERE, from_bits(SIGN | (INFINITE - 1)));
     refused(HERE, from_bits(SIGN | INFINITE));
@@ -137,6 +155,6 @@ void test_estimates(void)
     test_on_and_off_grid();
     test_greatest();
     test_large();
-    test_below_zero();
+    test_opposing();
     test_nans();
 }

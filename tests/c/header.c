@@ -25,6 +25,38 @@ static void test_limits(void)
     named(HERE, STRIPEAWN_CLAIM_BYTES, 20);
 }
 
+/* Limits of signed numbers are signed, so that they compare with any. */
+static void test_signed_limits(void)
+{
+    static const int32_t below[] = { -1, -5, -T - 1, INT32_MIN };
+    size_t i;
+
+    for (i = 0; i < COUNT(below); i++)
+        check(HERE,
+              !(below[i] > STRIPEAWN_M_MAX) && !(below[i] > STRIPEAWN_X_MAX) &&
+                  !(below[i] > STRIPEAWN_RADIAN),
+              "%ld is above a limit", (long)below[i]);
+    check(HERE, -STRIPEAWN_M_MAX == -H && -STRIPEAWN_X_MAX == -T,
+          "the least M or X is not below 0");
+    check(HERE, -1 * STRIPEAWN_RADIAN * STRIPEAWN_UNIT == -1.0,
+          "-1 radian is %f", -1 * STRIPEAWN_RADIAN * STRIPEAWN_UNIT);
+}
+
+/* What may be below 0 in a result reads so. */
+static void test_signed_results(void)
+{
+    struct stripeawn_bounds bounds = { 0, -1, -1 };
+    struct stripeawn_enclosure enclosure = { 0, -1, -1 };
+    struct stripeawn_proposal proposal = { 0, -1, -1, -1, 0 };
+
+    check(HERE, bounds.lo < 0 && bounds.hi < 0, "bounds have no sign");
+    check(HERE, enclosure.lower < 0 && enclosure.upper < 0,
+          "ends have no sign");
+    check(HERE,
+          proposal.angle < 0 && proposal.e_sin < 0 && proposal.e_cos < 0,
+          "a proposal has no sign");
+}
+
 static void test_codes(void)
 {
     named(HERE, STRIPEAWN_DONE, 0);
@@ -67,16 +99,16 @@ static void test_version(void)
 /* Names of 0 to 18; what is neither code nor verdict has none. */
 static const char *const names[] = {
     "done",
-    "M too large",
+    "M out of range",
     "A too large",
     "depth not 1 to 5",
     "estimate out of range",
     "N too large",
-    "no upper end at this depth",
+    "no enclosure at this depth",
     "claims length no multiple of 20",
     "answers buffer too short",
     "reserved byte not zero",
-    "angle X too large",
+    "angle X out of range",
     NULL, NULL, NULL, NULL, NULL,
     "Confirmed",
     "Refuted",
@@ -113,8 +145,8 @@ static void test_layout(void)
     named(HERE, sizeof(struct stripeawn_end), 8);
     named(HERE, offsetof(struct stripeawn_end, accepted), 4);
     named(HERE, sizeof(struct stripeawn_enclosure), 12);
-    named(HERE, offsetof(struct stripeawn_enclosure, a), 4);
-    named(HERE, offsetof(struct stripeawn_enclosure, b), 8);
+    named(HERE, offsetof(struct stripeawn_enclosure, lower), 4);
+    named(HERE, offsetof(struct stripeawn_enclosure, upper), 8);
     named(HERE, sizeof(struct stripeawn_proposal), 32);
     named(HERE, offsetof(struct stripeawn_proposal, angle), 4);
     named(HERE, offsetof(struct stripeawn_proposal, e_sin), 8);
@@ -129,6 +161,8 @@ static void test_layout(void)
 void test_header(void)
 {
     test_limits();
+    test_signed_limits();
+    test_signed_results();
     test_codes();
     test_unit();
     test_version();

@@ -25,12 +25,12 @@ static void test_wider_loses(void)
 /* With A = 0 the root is M, and a tolerance reaches it or does not. */
 static void test_reach(void)
 {
-    static const uint32_t tolerances[] = { 0, 1, 2, 1000, 65534, 65535 };
-    uint32_t m = 400000000;
+    static const int32_t tolerances[] = { 0, 1, 2, 1000, 65534, 65535 };
+    int32_t m = 400000000;
     size_t i;
 
     for (i = 0; i < COUNT(tolerances); i++) {
-        uint32_t n = tolerances[i];
+        int32_t n = tolerances[i];
 
         verdict_is(HERE, m, 0, units(m - n), n, 1, 0, 16);
         verdict_is(HERE, m, 0, units(m - n - 1), n, 1, 0, 17);
@@ -42,7 +42,7 @@ static void test_reach(void)
 /* Off the grid the nearer whole unit must not help: half a unit too far. */
 static void test_reach_off_grid(void)
 {
-    uint32_t m = 400000000, n;
+    int32_t m = 400000000, n;
     double half = units(1) / 2;
 
     for (n = 0; n < 4; n++) {
@@ -85,7 +85,7 @@ static void test_clamp_high(void)
 /* The enclosure here is 268435450 to 268435461 at depth 5. */
 static void test_at_the_enclosure(void)
 {
-    uint32_t m = 42554808;
+    int32_t m = 42554808;
 
     verdict_is(HERE, m, ONE, units(268435455), 6, 5, 0, 16);
     verdict_is(HERE, m, ONE, units(268435455), 5, 5, 0, 18);
@@ -117,6 +117,8 @@ static void test_limits(void)
 {
     verdict_is(HERE, H, 0, units(H), 0, 1, 0, 16);
     verdict_is(HERE, H + 1, 0, units(H), 0, 1, 1, 0);
+    verdict_is(HERE, INT32_MAX, 0, units(H), 0, 1, 1, 0);
+    verdict_is(HERE, INT32_MIN, 0, -units(H), 0, 1, 1, 0);
     verdict_is(HERE, 0, ONE, 0.0, 0, 1, 0, 16);
     verdict_is(HERE, 0, ONE + 1, 0.0, 0, 1, 2, 0);
     verdict_is(HERE, 0, 0, 0.0, 0, 0, 3, 0);

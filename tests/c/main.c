@@ -13,6 +13,7 @@ int main(void)
     test_propose();
     test_judge();
     test_undecided();
+    test_mirror();
     test_estimates();
     test_order();
     test_batch();

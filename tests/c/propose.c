@@ -4,7 +4,8 @@
 #include "check.h"
 
 struct stated {
-    uint32_t m, a;
+    int32_t m;
+    uint32_t a;
     struct stripeawn_proposal wanted;
 };
 
@@ -38,7 +39,8 @@ static const struct stated below_zero[] = {
 
 static const struct stated refused[] = {
     { H + 1, 0, { 1, 0, 0, 0, 0 } },
-    { FAR, ONE, { 1, 0, 0, 0, 0 } },
+    { INT32_MAX, ONE, { 1, 0, 0, 0, 0 } },
+    { INT32_MIN, ONE, { 1, 0, 0, 0, 0 } },
     { 0, ONE + 1, { 2, 0, 0, 0, 0 } },
     { H, FAR, { 2, 0, 0, 0, 0 } },
     { H + 1, ONE + 1, { 1, 0, 0, 0, 0 } },
@@ -52,33 +54,45 @@ static void test_table(const struct stated *table, size_t count)
         proposal_is(HERE, table[i].m, table[i].a, table[i].wanted);
 }
 
-/* Whether the width 2^j around the angle is accepted at depth 5. */
-static int certified(uint32_t angle, uint32_t m, uint32_t a, uint32_t j)
+/*
+** Whether the width 2^j around the angle is accepted at depth 5. No end goes
+** past 0 or past T, on the side of M.
+*/
+static int certified(int32_t angle, int32_t m, uint32_t a, uint32_t j)
 {
-    uint32_t width = UINT32_C(1) << j;
-    uint32_t low = angle > width ? angle - width : 0;
-    uint32_t high = angle + width < T ? angle + width : T;
+    int32_t width = INT32_C(1) << j;
+    int32_t least = m < 0 ? -T : 0, greatest = m < 0 ? 0 : T;
+    int32_t low = angle - least > width ? angle - width : least;
+    int32_t high = greatest - angle > width ? angle + width : greatest;
 
     return stripeawn_lower_end(low, m, a, 5).accepted &&
            stripeawn_upper_end(high, m, a, 5).accepted;
 }
 
 /* By the library's own end tests: j is accepted and no smaller one is. */
+static void smallest_certificate(int32_t m, uint32_t a)
+{
+    struct stripeawn_proposal got = stripeawn_propose(m, a);
+    int32_t size = m < 0 ? -got.angle : got.angle;
+    uint32_t j;
+
+    check(HERE, got.code == 0 && size >= 0 && size <= T && got.j <= 30,
+          "propose m=%ld a=%lu", (long)m, (unsigned long)a);
+    for (j = 0; j <= got.j && j <= 30; j++)
+        check(HERE, certified(got.angle, m, a, j) == (j == got.j),
+              "certificate %lu of m=%ld a=%lu is not the smallest",
+              (unsigned long)got.j, (long)m, (unsigned long)a);
+}
+
 static void test_smallest_certificate(void)
 {
-    uint32_t m, a, j;
+    uint32_t a;
+    int32_t m;
 
     for (m = 0; m <= H; m += 30000001)
         for (a = 0; a <= ONE; a += ONE / 16) {
-            struct stripeawn_proposal got = stripeawn_propose(m, a);
-
-            check(HERE, got.code == 0 && got.angle <= T && got.j <= 30,
-                  "propose m=%lu a=%lu", (unsigned long)m, (unsigned long)a);
-            for (j = 0; j <= got.j && j <= 30; j++)
-                check(HERE, certified(got.angle, m, a, j) == (j == got.j),
-                      "certificate %lu of m=%lu a=%lu is not the smallest",
-                      (unsigned long)got.j, (unsigned long)m,
-                      (unsigned long)a);
+            smallest_certificate(m, a);
+            smallest_certificate(-m, a);
         }
 }
 

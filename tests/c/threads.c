@@ -16,9 +16,9 @@ struct totals {
     uint64_t sine, ends, enclosures, proposals, verdicts, answers;
 };
 
-static void add_orbit(struct totals *t, uint32_t m, uint32_t a, uint32_t depth)
+static void add_orbit(struct totals *t, int32_t m, uint32_t a, uint32_t depth)
 {
-    struct stripeawn_bounds s = stripeawn_sine(m, depth);
+    struct stripeawn_bounds s = stripeawn_sine(m < 0 ? -m : m, depth);
     struct stripeawn_enclosure e = stripeawn_enclose(m, a, depth);
     struct stripeawn_proposal p = stripeawn_propose(m, a);
     double estimate = units(p.angle);
@@ -29,9 +29,9 @@ static void add_orbit(struct totals *t, uint32_t m, uint32_t a, uint32_t depth)
     t->sine += (uint64_t)s.lo * 3 + (uint64_t)s.hi;
     t->ends += stripeawn_lower_end(p.angle, m, a, depth).accepted * 3 +
                stripeawn_upper_end(p.angle, m, a, depth).accepted;
-    t->enclosures += (uint64_t)e.a * 3 + e.b;
-    t->proposals += p.angle + (uint64_t)p.e_sin * 3 + (uint64_t)p.e_cos * 5 +
-                    p.j;
+    t->enclosures += (uint64_t)e.lower * 3 + (uint64_t)e.upper;
+    t->proposals += (uint64_t)p.angle + (uint64_t)p.e_sin * 3 +
+                    (uint64_t)p.e_cos * 5 + p.j;
     t->verdicts += stripeawn_judge(m, a, estimate, depth * 9, depth).verdict;
     t->answers += answer;
 }
@@ -43,10 +43,10 @@ static void *run(void *given)
 
     *t = none;
     for (i = 0; i < ORBITS; i++) {
-        uint32_t m = (random = random * 1664525 + 1013904223) % (H + 1);
+        int32_t size = (random = random * 1664525 + 1013904223) % (H + 1);
         uint32_t a = (random = random * 1664525 + 1013904223) % (ONE + 1);
 
-        add_orbit(t, m, a, i % 5 + 1);
+        add_orbit(t, i % 2 ? -size : size, a, i % 5 + 1);
     }
     return NULL;
 }

@@ -9,9 +9,12 @@
 
 /* The last A at which T is an upper end, and the last at which T - 1 is. */
 struct turn {
-    uint32_t m, depth;
-    uint32_t a, low;       /* enclosure: low to T, and code 6 at a + 1 */
-    uint32_t less_a, less; /* enclosure: less to T - 1 */
+    int32_t m;
+    uint32_t depth;
+    uint32_t a;      /* code 6 at a + 1 */
+    int32_t low;     /* enclosure at a: low to T */
+    uint32_t less_a;
+    int32_t less;    /* enclosure at less_a: less to T - 1 */
 };
 
 /* Numbers worked out with whole numbers of any size. */
@@ -33,7 +36,8 @@ static const struct turn turns_of_a[] = {
 
 /* The last M at which T is an upper end; the enclosure is low to T. */
 struct last {
-    uint32_t a, depth, m, low;
+    uint32_t a, depth;
+    int32_t m, low;
 };
 
 static const struct last turns_of_m[] = {
@@ -50,7 +54,7 @@ static const struct last turns_of_m[] = {
 };
 
 /* Where code 6 is due at one depth, depths 4 and 5 have an enclosure. */
-static void only_deeper(uint32_t m, uint32_t a, uint32_t depth)
+static void only_deeper(int32_t m, uint32_t a, uint32_t depth)
 {
     enclosure_is(HERE, m, a, depth, 6, 0, 0);
     check(HERE, stripeawn_enclose(m, a, 4).code == 0, "code 6 at depth 4");
@@ -104,7 +108,8 @@ static void test_lower_ends(void)
         { 140671977, 1858931, 5618, -50, -55 },
         { 140671976, 1858929, 5616, -52, -57 },
     };
-    uint32_t depth, past;
+    uint32_t depth;
+    int32_t past;
 
     for (depth = 1; depth <= 5; depth++)
         for (past = 0; past < 2; past++) {

@@ -8,15 +8,16 @@
 static uint32_t by_enclosure(struct stripeawn_enclosure e, double estimate,
                              double n)
 {
-    double x = estimate * STRIPEAWN_RADIAN, a = e.a, b = e.b;
+    double x = estimate * STRIPEAWN_RADIAN, lower = e.lower, upper = e.upper;
 
-    if (x < a - n || x > b + n)
+    if (x < lower - n || x > upper + n)
         return 17;
-    return x >= b - n && x <= a + n ? 16 : 18;
+    return x >= upper - n && x <= lower + n ? 16 : 18;
 }
 
 struct settled {
-    uint32_t m, a;
+    int32_t m;
+    uint32_t a;
     double x; /* estimate, units */
     uint32_t n, depth, verdict;
 };
@@ -38,48 +39,68 @@ static const struct settled settled[] = {
     { 1, ONE, 850000, 1000, 5, 18 }, /* in the midst of 756153 to 952744 */
 };
 
+static void settled_is(struct settled s)
+{
+    double estimate = s.x * STRIPEAWN_UNIT;
+    uint32_t got = by_enclosure(stripeawn_enclose(s.m, s.a, s.depth),
+                                estimate, s.n);
+
+    verdict_is(HERE, s.m, s.a, estimate, s.n, s.depth, 0, 18);
+    check(HERE, got == s.verdict, "m=%ld x=%f: the enclosure says %lu, "
+          "wanted %lu", (long)s.m, s.x, (unsigned long)got,
+          (unsigned long)s.verdict);
+}
+
+/* Each row and its mirror, which M = 0 has none of. */
 static void test_settled(void)
 {
     size_t i;
 
     for (i = 0; i < COUNT(settled); i++) {
         struct settled s = settled[i];
-        double estimate = s.x * STRIPEAWN_UNIT;
-        uint32_t got = by_enclosure(stripeawn_enclose(s.m, s.a, s.depth),
-                                    estimate, s.n);
 
-        verdict_is(HERE, s.m, s.a, estimate, s.n, s.depth, 0, 18);
-        check(HERE, got == s.verdict, "row %lu: the enclosure says %lu, "
-              "wanted %lu", (unsigned long)i, (unsigned long)got,
-              (unsigned long)s.verdict);
+        settled_is(s);
+        s.m = -s.m;
+        s.x = -s.x;
+        if (s.m < 0)
+            settled_is(s);
+    }
+}
+
+/* Judge and enclosure on estimates around the ends, n units from them. */
+static void no_contradiction(int32_t m, uint32_t a, double n)
+{
+    static const double offsets[] = { -1.5, -1, -0.25, 0, 0.5, 1, 1.25 };
+    struct stripeawn_enclosure e = stripeawn_enclose(m, a, 5);
+    size_t i;
+
+    for (i = 0; i < COUNT(offsets); i++) {
+        double x = (i % 2 ? e.lower - n : e.upper + n) + offsets[i];
+        double estimate = x * STRIPEAWN_UNIT;
+        struct stripeawn_verdict v =
+            stripeawn_judge(m, a, estimate, (uint32_t)n, 5);
+        uint32_t other = by_enclosure(e, estimate, n);
+
+        check(HERE,
+              e.code == 0 && (v.code == 4 || v.verdict == other ||
+                              v.verdict == 18 || other == 18),
+              "m=%ld a=%lu x=%f: judge %lu, enclosure %lu", (long)m,
+              (unsigned long)a, x, (unsigned long)v.verdict,
+              (unsigned long)other);
     }
 }
 
 /* The two never contradict each other, just within reach or just beyond. */
 static void test_no_contradiction(void)
 {
-    static const double offsets[] = { -1.5, -1, -0.25, 0, 0.5, 1, 1.25 };
-    uint32_t m, a, n = 70;
-    size_t i;
+    uint32_t a;
+    int32_t m;
 
     for (m = 1000; m <= H; m += 41000003)
-        for (a = 0; a <= ONE; a += ONE / 16)
-            for (i = 0; i < COUNT(offsets); i++) {
-                struct stripeawn_enclosure e = stripeawn_enclose(m, a, 5);
-                double x = (i % 2 ? e.a - (double)n : e.b + (double)n) +
-                           offsets[i];
-                double estimate = x * STRIPEAWN_UNIT;
-                struct stripeawn_verdict v =
-                    stripeawn_judge(m, a, estimate, n, 5);
-                uint32_t other = by_enclosure(e, estimate, n);
-
-                check(HERE,
-                      e.code == 0 && (v.code == 4 || v.verdict == other ||
-                                      v.verdict == 18 || other == 18),
-                      "m=%lu a=%lu x=%f: judge %lu, enclosure %lu",
-                      (unsigned long)m, (unsigned long)a, x,
-                      (unsigned long)v.verdict, (unsigned long)other);
-            }
+        for (a = 0; a <= ONE; a += ONE / 16) {
+            no_contradiction(m, a, 70);
+            no_contradiction(-m, a, 70);
+        }
 }
 
 /* A limit's last bit counts: n and 2^-53 of a unit more from the root. */
@@ -89,6 +110,8 @@ static void test_last_bit(void)
 
     check(HERE, by_enclosure(stripeawn_enclose(65536, 0, 5), estimate,
                              65535) == 17, "2^-53 of a unit is lost");
+    check(HERE, by_enclosure(stripeawn_enclose(-65536, 0, 5), -estimate,
+                             65535) == 17, "-2^-53 of a unit is lost");
     verdict_is(HERE, 65536, 0, estimate, 65535, 5, 0, 17);
 }
 

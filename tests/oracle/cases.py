@@ -2,12 +2,17 @@
 
 Most are drawn so that a rule is about to turn: an M for which an end test
 just holds or just fails, an estimate whose tolerance just reaches the root.
-A few have an input outside its limit.
+They are drawn for M from 0 up, and half of them are then mirrored. A few have
+an input outside its limit, or one whose sign opposes that of M.
 """
 import doubles
 import records
 import wire
 from rules import H, ONE, T, TOLERANCE, UNIT, bounds
+
+# The signed numbers of 32 bits.
+LEAST, GREATEST = -2 ** 31, 2 ** 31 - 1
+SIGNS = (1, -1)
 
 
 def small(rng, bits):
@@ -48,7 +53,28 @@ def spoil(rng, value, limit):
                        2 ** 32 - 1 - small(rng, 24)))
 
 
-def turning_orbit(rng, d):
+def spoil_signed(rng, value, limit):
+    """Now and then a value at or beyond its limit of either sign, or any
+    number of 32 bits."""
+    if rng.randrange(300):
+        return value
+    size = rng.choice((limit, limit + 1, limit + 1 + small(rng, 24),
+                       GREATEST - small(rng, 24)))
+    return rng.choice((size, -size, LEAST,
+                       rng.randrange(LEAST, GREATEST + 1)))
+
+
+def sign(rng, m):
+    """The sign to give to a problem drawn with this M: 0 has no mirror."""
+    return rng.choice(SIGNS) if m else 1
+
+
+def opposes(rng):
+    """Whether what is given beside M has the other sign: now and then."""
+    return not rng.randrange(50)
+
+
+def turning_problem(rng, d):
     """X, M and A such that X is, or just is not, an end at depth d: the rule
     solved for M, then moved by a few units."""
     while True:
@@ -61,6 +87,13 @@ def turning_orbit(rng, d):
             return x, m, a
 
 
+def turning_orbit(rng, d):
+    """The like, of either sign."""
+    x, m, a = turning_problem(rng, d)
+    factor = sign(rng, m)
+    return factor * x, factor * m, a
+
+
 def sine_case(rng):
     return wire.sine(spoil(rng, angle(rng), T), spoil(rng, depth(rng), 5))
 
@@ -68,9 +101,10 @@ def sine_case(rng):
 def end_case(rng):
     d = depth(rng)
     x, m, a = turning_orbit(rng, d)
+    x = -x if opposes(rng) else x
     side = rng.choice((wire.lower, wire.upper))
-    return side(spoil(rng, x, T), spoil(rng, m, H), spoil(rng, a, ONE),
-                spoil(rng, d, 5))
+    return side(spoil_signed(rng, x, T), spoil_signed(rng, m, H),
+                spoil(rng, a, ONE), spoil(rng, d, 5))
 
 
 def ragged_orbit(rng):
@@ -83,20 +117,21 @@ def ragged_orbit(rng):
 
 def orbit(rng):
     """An M and an A: anywhere, with a root near a random angle, or ragged."""
-    return rng.choice((lambda: (anomaly(rng), eccentricity(rng)),
-                       lambda: turning_orbit(rng, depth(rng))[1:],
+    m, a = rng.choice((lambda: (anomaly(rng), eccentricity(rng)),
+                       lambda: turning_problem(rng, depth(rng))[1:],
                        lambda: ragged_orbit(rng)))()
+    return sign(rng, m) * m, a
 
 
 def enclosure_case(rng):
     m, a = orbit(rng)
-    return wire.enclose(spoil(rng, m, H), spoil(rng, a, ONE),
+    return wire.enclose(spoil_signed(rng, m, H), spoil(rng, a, ONE),
                         spoil(rng, depth(rng), 5))
 
 
 def proposal_case(rng):
     m, a = orbit(rng)
-    return wire.propose(spoil(rng, m, H), spoil(rng, a, ONE))
+    return wire.propose(spoil_signed(rng, m, H), spoil(rng, a, ONE))
 
 
 def estimate(rng, units):
@@ -111,6 +146,8 @@ def estimate(rng, units):
         return rng.choice(doubles.every_kind())
     if kind == 2:
         return small(rng, 52)
+    if kind == 3:
+        return rng.choice((0, doubles.SIGN))
     return doubles.of_units(units, part, places)
 
 
@@ -118,23 +155,27 @@ def claim(rng):
     """M, A, estimate, N and depth, with the estimate about N from an angle
     at which an end test turns."""
     d = depth(rng)
-    x, m, a = turning_orbit(rng, d)
+    x, m, a = turning_problem(rng, d)
     n = rng.choice((0, 1, small(rng, 16), rng.randrange(TOLERANCE + 1)))
     off = rng.choice((-n - 1, -n, n, n + 1, 0)) + rng.choice((-1, 0, 1))
-    return m, a, estimate(rng, x + off), n, d
+    bits = estimate(rng, x + off)
+    factor = sign(rng, m)
+    if (factor < 0) != opposes(rng):
+        bits ^= doubles.SIGN
+    return factor * m, a, bits, n, d
 
 
 def verdict_case(rng):
     m, a, bits, n, d = claim(rng)
-    return wire.judge(spoil(rng, m, H), spoil(rng, a, ONE), bits,
+    return wire.judge(spoil_signed(rng, m, H), spoil(rng, a, ONE), bits,
                       spoil(rng, n, TOLERANCE), spoil(rng, d, 5))
 
 
 def record(rng):
     """A claim record, now and then with a fault or with a damaged byte."""
     m, a, bits, n, d = claim(rng)
-    whole = bytearray(records.record(spoil(rng, m, H), spoil(rng, a, ONE),
-                                     bits, n, d))
+    whole = bytearray(records.record(
+        spoil_signed(rng, m, H), spoil(rng, a, ONE), bits, n, d))
     fault = rng.randrange(40)
     if fault == 0:
         whole[19] = rng.randrange(256)

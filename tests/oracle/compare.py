@@ -4,7 +4,8 @@
 
 SEED is a whole number, or 'time' for one from the clock. DRIVER is the
 command that runs driver.c linked with the library. Any difference is printed
-with its case, and the exit status is then 1.
+with its case, and the exit status is then 1. So it is where too few of the
+random cases or of the exact facts had a negative M.
 """
 import random
 import sys
@@ -22,6 +23,8 @@ import wire
 
 PROCESSES = 2
 SHOWN = 20
+# Random cases, and exact facts, of which each run has to have that many.
+NEGATIVE_LEAST = 100_000
 
 RULES = {
     wire.SINE: lambda c: rules.sine(c.x, c.depth),
@@ -48,11 +51,13 @@ def differences(call, wanted, got):
 
 
 def compare(driver, calls):
-    """How often each entry was compared, and the differences."""
+    """How often each entry was compared, how many calls had a negative M
+    (those with buffers not counted), and the differences."""
     faults = []
     for call, got in zip(calls, wire.ask(driver, calls)):
         faults += differences(call, RULES[call.entry](call), got)
-    return Counter(wire.NAMES[call.entry] for call in calls), faults
+    negative = sum(call.entry != wire.BATCH and call.m < 0 for call in calls)
+    return Counter(wire.NAMES[call.entry] for call in calls), negative, faults
 
 
 def compare_stated(driver):
@@ -63,22 +68,25 @@ def compare_stated(driver):
         faults += differences(call, answer, got)
         if RULES[call.entry](call) != answer:
             faults.append(f"the rules of this folder miss {answer} at {call}")
-    return Counter(numbers=len(calls)), faults
+    return Counter(numbers=len(calls)), 0, faults
 
 
 def check_demand(driver, check, rng, count):
-    """How many facts were looked at, and those that do not hold."""
-    facts, faults = 0, []
-    for true, sentence in check(lambda calls: wire.ask(driver, calls), rng,
-                                count):
+    """How many facts were looked at, how many of them for a negative M, and
+    those that do not hold."""
+    facts, negative, faults = 0, 0, []
+    for m, true, sentence in check(lambda calls: wire.ask(driver, calls), rng,
+                                   count):
         facts += 1
+        negative += m < 0
         if not true:
             faults.append(f"not as demanded: {sentence}")
-    return Counter(facts=facts), faults
+    return Counter(facts=facts), negative, faults
 
 
 def work(piece):
-    """One piece of work: its group, what it counted, what it found wrong."""
+    """One piece of work: its group, what it counted, how much of that had a
+    negative M, and what it found wrong."""
     driver, seed, group, kind, number, count = piece
     rng = random.Random(f"{seed} {group} {kind} {number}")
     if group == "stated":
@@ -101,10 +109,20 @@ def pieces(driver, seed):
                 yield driver, seed, group, kind, number, each
 
 
-def report(totals, faults, seconds):
+def too_few(negative):
+    """A sentence for each group that had too few of a negative M."""
+    return [f"too few {group} checks with negative M: {negative[group]:,}"
+            for group in ("random", "exact")
+            if negative[group] < NEGATIVE_LEAST]
+
+
+def report(totals, negative, faults, seconds):
     for group in ("edge", "random"):
         parts = (f"{count:,} {name}" for name, count in totals[group].items())
         print(f"compare: {group} cases: {', '.join(sorted(parts))}")
+    print(f"compare: with negative M: {negative['random']:,} random cases, "
+          f"{negative['edge']:,} edge cases and {negative['exact']:,} exact "
+          "facts")
     for sentence in faults[:SHOWN]:
         print(f"compare: DIFFERENT: {sentence}")
     if len(faults) > SHOWN:
@@ -123,13 +141,15 @@ def main(arguments):
     seed = time.time_ns() if arguments[0] == "time" else int(arguments[0])
     start = time.monotonic_ns()
     print(f"compare: seed {seed}", flush=True)
-    totals, faults = {}, []
+    totals, negative, faults = {}, Counter(), []
     with Pool(PROCESSES) as pool:
-        for group, counts, wrong in pool.imap_unordered(
+        for group, counts, below, wrong in pool.imap_unordered(
                 work, pieces(arguments[1:], seed)):
             totals.setdefault(group, Counter()).update(counts)
+            negative[group] += below
             faults += wrong
-    report(totals, faults, (time.monotonic_ns() - start) // 10 ** 9)
+    faults += too_few(negative)
+    report(totals, negative, faults, (time.monotonic_ns() - start) // 10 ** 9)
     return 1 if faults else 0
 
 

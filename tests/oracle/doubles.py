@@ -1,4 +1,6 @@
-"""Doubles as their 64 bits, made from whole numbers."""
+"""Doubles as their 64 bits, made from whole numbers and read as fractions."""
+from fractions import Fraction
+
 import rules
 
 SIGN = 2 ** 63
@@ -11,6 +13,8 @@ def bits_of(numerator, shift):
     """The bits of numerator / 2^shift, which must be a normal double or 0."""
     if numerator == 0:
         return 0
+    if numerator < 0:
+        return SIGN + bits_of(-numerator, shift)
     length = numerator.bit_length()
     if length > 53:
         raise ValueError("more than 53 bits")
@@ -23,6 +27,17 @@ def bits_of(numerator, shift):
 def of_units(units, part=0, places=0):
     """The bits of units + part / 2^places units, in radians."""
     return bits_of((units << places) + part, 28 + places)
+
+
+def in_units(bits):
+    """The number itself, in units; None for an infinity and for a NaN."""
+    exponent, mantissa = bits >> 52 & 2047, bits % 2 ** 52
+    if exponent == 2047:
+        return None
+    if exponent:
+        mantissa += 2 ** 52
+    size = Fraction(2) ** (max(exponent, 1) - 1075 + 28) * mantissa
+    return -size if bits & SIGN else size
 
 
 def every_kind():

@@ -15,7 +15,9 @@
 enum entry { SINE, LOWER_END, UPPER_END, ENCLOSE, PROPOSE, JUDGE, BATCH };
 
 struct request {
-    uint32_t entry, x, m, a, n, depth;
+    uint32_t entry;
+    int32_t x, m; /* x of sine: the 32 bits of an unsigned number */
+    uint32_t a, n, depth;
     uint64_t bits; /* of the estimate */
 };
 
@@ -52,7 +54,7 @@ static uint8_t *read_buffer(size_t count)
 
 static struct reply ask_sine(const struct request *r)
 {
-    struct stripeawn_bounds s = stripeawn_sine(r->x, r->depth);
+    struct stripeawn_bounds s = stripeawn_sine((uint32_t)r->x, r->depth);
     struct reply reply = { s.code, s.lo, s.hi, 0, 0 };
 
     return reply;
@@ -72,7 +74,7 @@ static struct reply ask_end(const struct request *r)
 static struct reply ask_enclosure(const struct request *r)
 {
     struct stripeawn_enclosure s = stripeawn_enclose(r->m, r->a, r->depth);
-    struct reply reply = { s.code, s.a, s.b, 0, 0 };
+    struct reply reply = { s.code, s.lower, s.upper, 0, 0 };
 
     return reply;
 }
@@ -98,22 +100,22 @@ static struct reply ask_verdict(const struct request *r)
     return reply;
 }
 
-/* x is the length of the claims, m that of the answers, a the room behind. */
+/* a is the length of the claims, n that of the answers, depth their room. */
 static void answer_batch(const struct request *r)
 {
-    uint8_t *claims = read_buffer(r->x);
-    uint8_t *answers = read_buffer(r->a);
+    uint8_t *claims = read_buffer(r->a);
+    uint8_t *answers = read_buffer(r->depth);
     struct stripeawn_batch s;
     struct reply reply = { 0, 0, 0, 0, 0 };
 
-    if (r->m > r->a)
+    if (r->n > r->depth)
         fail("a batch request has less room than it says");
-    s = stripeawn_judge_claims(claims, r->x, answers, r->m);
+    s = stripeawn_judge_claims(claims, r->a, answers, r->n);
     reply.code = s.code;
     reply.first = (int64_t)s.count;
     write_bytes(&reply, sizeof reply);
-    write_bytes(answers, r->a);
-    write_bytes(claims, r->x);
+    write_bytes(answers, r->depth);
+    write_bytes(claims, r->a);
     free(claims);
     free(answers);
 }

@@ -1,7 +1,7 @@
 """The exact Taylor sums of sine, and the inequalities that an end must meet.
 
-R8, R14, R19, R20. Inequalities are multiplied out, so that they compare whole
-numbers of any size.
+R8, R14, R19, R20, of angles of either sign. Inequalities are multiplied out,
+so that they compare whole numbers of any size.
 """
 from fractions import Fraction
 from functools import lru_cache
@@ -30,21 +30,46 @@ def scaled_sum(x, n):
     return x * numerator, denominator
 
 
-def lower_spare(x, m, a):
-    """R19: what a lower end's inequality has to spare, in units: a numerator,
-    and the denominator, which is above zero."""
-    numerator, denominator = scaled_sum(x, 9)
+def lower_spare(x, m, a, n):
+    """What X - M <= e S_n(X) has to spare, in units: a numerator, and the
+    denominator, which is above zero."""
+    numerator, denominator = scaled_sum(x, n)
     return (a * numerator - UNIT * denominator * (x - m), UNIT * denominator)
 
 
-def upper_spare(x, m, a):
-    """R19: what an upper end's inequality has to spare, likewise."""
-    numerator, denominator = scaled_sum(x, 10)
-    return (UNIT * denominator * (x - m) - a * numerator, UNIT * denominator)
+def upper_spare(x, m, a, n):
+    """What X - M >= e S_n(X) has to spare, likewise."""
+    spare, denominator = lower_spare(x, m, a, n)
+    return -spare, denominator
+
+
+def own_sums(m):
+    """R19: the n of a lower and of an upper end's own inequality. The mirror
+    exchanges the ends and so the sums."""
+    return (9, 10) if m >= 0 else (10, 9)
+
+
+def own_lower_spare(x, m, a):
+    return lower_spare(x, m, a, own_sums(m)[0])
+
+
+def own_upper_spare(x, m, a):
+    return upper_spare(x, m, a, own_sums(m)[1])
 
 
 def holds(spare):
     return spare[0] >= 0
+
+
+def is_lower(x, m, a):
+    """R19: X meets the inequality with S_9, for M of either sign, and its
+    own."""
+    return all(holds(lower_spare(x, m, a, n)) for n in {9, own_sums(m)[0]})
+
+
+def is_upper(x, m, a):
+    """R19: X meets the inequality with S_10, likewise, and its own."""
+    return all(holds(upper_spare(x, m, a, n)) for n in {10, own_sums(m)[1]})
 
 
 def less_than_32e(spare, a):

@@ -27,6 +27,7 @@ def files():
     longest = b"".join(cases.record(rng) for _ in range(3_276))
     yield "no claims", b""
     yield "the stated batch", stated.BATCH.claims
+    yield "the stated batch of negative Ms", stated.NEGATIVE_BATCH.claims
     yield "every kind of record", every
     for cut in (1, 19, 20, 21, 39, 40, 41, len(every) - 1):
         yield f"cut to {cut} bytes", every[:cut]

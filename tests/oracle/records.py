@@ -7,32 +7,45 @@ PROGRAM_BYTES = 65_520
 
 
 def record(m, a, bits, n, depth, reserved=0):
-    """R49."""
-    return (m.to_bytes(4, "little") + a.to_bytes(4, "little")
+    """R49: M is in two's complement."""
+    return (m.to_bytes(4, "little", signed=True) + a.to_bytes(4, "little")
             + bits.to_bytes(8, "little") + n.to_bytes(2, "little")
             + bytes([depth, reserved]))
 
 
+def fields(claim):
+    """R49: the six numbers of a record, in their order."""
+    m = int.from_bytes(claim[:4], "little", signed=True)
+    a, bits, n = (int.from_bytes(claim[start:stop], "little")
+                  for start, stop in ((4, 8), (8, 16), (16, 18)))
+    return m, a, bits, n, claim[18], claim[19]
+
+
 def answer_byte(claim):
     """R50: a code where there is one, else the verdict."""
-    if claim[19] != 0:
+    *given, reserved = fields(claim)
+    if reserved != 0:
         return 9
-    m, a, bits, n = (int.from_bytes(claim[start:stop], "little")
-                     for start, stop in ((0, 4), (4, 8), (8, 16), (16, 18)))
-    code, verdict = rules.judge(m, a, bits, n, claim[18])
+    code, verdict = rules.judge(*given)
     return code or verdict
+
+
+def split(claims):
+    """The whole records, and the bytes that are left."""
+    whole = len(claims) - len(claims) % SIZE
+    return ([claims[at:at + SIZE] for at in range(0, whole, SIZE)],
+            claims[whole:])
 
 
 def judge_claims(claims, answers, answers_len):
     """R51, R52: code, count and the answers buffer afterwards."""
-    count = len(claims) // SIZE
-    if len(claims) % SIZE:
+    whole, rest = split(claims)
+    if rest:
         return 7, 0, answers
-    if answers_len < count:
+    if answers_len < len(whole):
         return 8, 0, answers
-    written = bytes(answer_byte(claims[i:i + SIZE])
-                    for i in range(0, len(claims), SIZE))
-    return 0, count, written + answers[count:]
+    written = bytes(map(answer_byte, whole))
+    return 0, len(whole), written + answers[len(whole):]
 
 
 def program(data):

@@ -11,7 +11,7 @@ from math import floor
 # R2, R3: units in a radian, and A for e = 1
 UNIT = 2 ** 28
 ONE = 268_435_456
-# R3: the greatest M and the greatest X
+# R3: the greatest size of M and that of X
 H = 843_314_856
 T = 843_314_920
 # R3: every depth, and the greatest N
@@ -22,10 +22,28 @@ TOLERANCE = 65_535
 CONFIRMED, REFUTED, UNDECIDED = 16, 17, 18
 
 
+# ---- The mirror ------------------------------------------------------------
+
+def posed(m):
+    """R59: the M of the problem that is solved, and whether that is the mirror
+    of the problem given."""
+    return abs(m), m < 0
+
+
+def mirror(number, mirrored):
+    """R59: a number given beside M, or one of an answer."""
+    return -number if mirrored else number
+
+
+def mirror_double(bits, mirrored):
+    """R59: the sign is the highest bit."""
+    return bits ^ 2 ** 63 if mirrored else bits
+
+
 # ---- Codes -----------------------------------------------------------------
 
 def orbit_code(m, a, depth):
-    """R6: 1, 2, then 3."""
+    """R6, of an M that is posed: 1, 2, then 3."""
     if m > H:
         return 1
     if a > ONE:
@@ -39,8 +57,8 @@ def depth_code(depth):
 
 
 def angle_code(x):
-    """R5, code 10."""
-    return 10 if x > T else 0
+    """R5, code 10. Below 0 is an X that opposes M."""
+    return 0 if 0 <= x <= T else 10
 
 
 # ---- Sine in whole numbers -------------------------------------------------
@@ -98,16 +116,25 @@ def accepts_upper(x, m, a, depth):
     return UNIT * (x - m) >= a * bounds(x, depth)[1]
 
 
+def end_test(x, m, a, depth, upper):
+    """R24, R59: the mirror exchanges the ends."""
+    m, mirrored = posed(m)
+    x = mirror(x, mirrored)
+    code = orbit_code(m, a, depth) or angle_code(x)
+    if code:
+        return code, 0
+    accepts = accepts_lower if upper == mirrored else accepts_upper
+    return 0, int(accepts(x, m, a, depth))
+
+
 def lower_end(x, m, a, depth):
     """R24."""
-    code = orbit_code(m, a, depth) or angle_code(x)
-    return (code, 0) if code else (0, int(accepts_lower(x, m, a, depth)))
+    return end_test(x, m, a, depth, upper=False)
 
 
 def upper_end(x, m, a, depth):
     """R24."""
-    code = orbit_code(m, a, depth) or angle_code(x)
-    return (code, 0) if code else (0, int(accepts_upper(x, m, a, depth)))
+    return end_test(x, m, a, depth, upper=True)
 
 
 # ---- Enclosure -------------------------------------------------------------
@@ -139,13 +166,16 @@ def search_upper(m, a, depth):
 
 
 def enclose(m, a, depth):
-    """R28, R31: code 6 comes last."""
+    """R28, R31, R59: code 6 comes last, and the mirror exchanges the ends."""
+    m, mirrored = posed(m)
     code = orbit_code(m, a, depth)
     if not code and not accepts_upper(T, m, a, depth):
         code = 6
     if code:
         return code, 0, 0
-    return 0, search_lower(m, a, depth), search_upper(m, a, depth)
+    found = [search_lower(m, a, depth), search_upper(m, a, depth)]
+    lower, upper = reversed(found) if mirrored else found
+    return 0, mirror(lower, mirrored), mirror(upper, mirrored)
 
 
 # ---- Proposal --------------------------------------------------------------
@@ -202,13 +232,15 @@ def certificate(e, m, a):
 
 
 def propose(m, a):
-    """R37, R40."""
+    """R37, R40, R59: a cosine is the same on the mirror."""
+    m, mirrored = posed(m)
     code = orbit_code(m, a, 5)
     if code:
         return code, 0, 0, 0, 0
     e, x, y = rotations(m, a)
     e = min(max(e, 0), T)
-    return 0, e, y, x, certificate(e, m, a)
+    return (0, mirror(e, mirrored), mirror(y, mirrored), x,
+            certificate(e, m, a))
 
 
 # ---- Judging a double ------------------------------------------------------
@@ -242,9 +274,10 @@ def is_refuted(m, a, f, c, n, depth):
 
 
 def judge(m, a, bits, n, depth):
-    """R45, R48."""
+    """R45, R48, R59."""
+    m, mirrored = posed(m)
     code = orbit_code(m, a, depth)
-    units = floor_and_ceiling(bits)
+    units = floor_and_ceiling(mirror_double(bits, mirrored))
     if not code and units is None:
         code = 4
     if not code and n > TOLERANCE:

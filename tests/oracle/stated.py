@@ -1,9 +1,11 @@
 """The numbers of R57, and some beside them: calls with their stated answers.
 
-They hold both programs: the rules of this folder and the library.
+They hold both programs: the rules of this folder and the library. What is
+stated of an M above 0 is stated of -M too, as its mirror.
 """
 import doubles
 import wire
+from cases import GREATEST, LEAST, SIGNS
 from rules import CONFIRMED, H, ONE, REFUTED, T, UNDECIDED
 
 SINES = [
@@ -21,57 +23,106 @@ LOWER_ENDS = [(5, 42_554_811, 1), (5, 42_554_810, 0),
 UPPER_ENDS = [(5, 42_554_805, 1), (5, 42_554_806, 0),
               (1, 42_502_279, 1), (1, 42_502_280, 0)]
 
+# X and M with A = 0 at depth 5, with the answers to lower and upper end. X = 0
+# opposes no M.
+PLAIN_ENDS = [(0, 0, (0, 1), (0, 1)), (0, 1, (0, 1), (0, 0)),
+              (0, -1, (0, 0), (0, 1)), (1, 1, (0, 1), (0, 1)),
+              (-1, -1, (0, 1), (0, 1)), (T, 0, (0, 0), (0, 1)),
+              (T, H, (0, 0), (0, 1)), (-T, -H, (0, 1), (0, 0))]
+# X and M where X is refused, as it opposes M or is too far.
+REFUSED_ENDS = [(T + 1, 0), (T + 1, H), (-T - 1, -H), (-1, 0), (-1, 1),
+                (1, -1), (-T, 0), (T, -1), (LEAST, 0), (LEAST, -1),
+                (GREATEST, 0), (GREATEST, -1)]
+
+# The batch of R57.
 BATCH = wire.Batch(
     bytes(18) + b"\x01\x00"
     + bytes.fromhex("00000000 00000010 000000000000603F E803 05 00"),
     b"\xEE\xEE\xEE", 3)
+# M is -1, -1, -H, -H - 1, -2^31 with e = 0, and -1 with e = 1. The estimates
+# are -1, 1, -H, 0, 0 and -756,152 units.
+NEGATIVE_BATCH = wire.Batch(
+    bytes.fromhex("FFFFFFFF 00000000 00000000000030BE 0000 01 00"
+                  "FFFFFFFF 00000000 000000000000303E 0000 01 00"
+                  "5809BCCD 00000000 00000054FB2109C0 0000 01 00"
+                  "5709BCCD 00000000 0000000000000000 0000 01 00"
+                  "00000080 00000000 0000000000000000 0000 01 00"
+                  "FFFFFFFF 00000010 00000000701367BF 0000 05 00"),
+    b"\xEE" * 7, 6)
 
 
 def ends():
-    stated = [(wire.lower(ONE, m, ONE, d), (0, yes))
-              for d, m, yes in LOWER_ENDS]
-    stated += [(wire.upper(ONE, m, ONE, d), (0, yes))
-               for d, m, yes in UPPER_ENDS]
-    stated += [(side(T, 0, 0, 5), (0, int(side is wire.upper)))
-               for side in (wire.lower, wire.upper)]
-    stated += [(side(T + 1, 0, 0, 5), (10, 0))
+    """At X = -2^28 the ends of -M are exchanged."""
+    stated = []
+    for sign in SIGNS:
+        lower, upper = (wire.lower, wire.upper)[::sign]
+        for side, rows in ((lower, LOWER_ENDS), (upper, UPPER_ENDS)):
+            stated += [(side(sign * ONE, sign * m, ONE, d), (0, yes))
+                       for d, m, yes in rows]
+    for x, m, is_lower, is_upper in PLAIN_ENDS:
+        stated += [(wire.lower(x, m, 0, 5), is_lower),
+                   (wire.upper(x, m, 0, 5), is_upper)]
+    stated += [(side(x, m, 0, 5), (10, 0)) for x, m in REFUSED_ENDS
                for side in (wire.lower, wire.upper)]
     return stated
 
 
 def enclosures():
+    """On the circle both ends are M."""
+    sizes = (1, 12_345, ONE, H - 1, H)
     stated = [(wire.enclose(m, 0, d), (0, m, m))
-              for m in (0, 1, 12_345, ONE, H - 1, H) for d in (1, 2, 3, 4, 5)]
+              for m in (0, *sizes, *(-size for size in sizes))
+              for d in (1, 2, 3, 4, 5)]
+    stated += [(wire.enclose(sign * H, ONE, 1), (6, 0, 0)) for sign in SIGNS]
+    stated += [(wire.enclose(m, 0, 1), (1, 0, 0))
+               for m in (H + 1, -H - 1, GREATEST, LEAST)]
+    stated += [(wire.enclose(m, ONE + 1, 1), (2, 0, 0)) for m in (0, -H)]
     stated += [(wire.enclose(0, ONE, 5), (0, 0, 0)),
-               (wire.enclose(H, ONE, 1), (6, 0, 0)),
-               (wire.enclose(H, 0, 1), (0, H, H)),
-               (wire.enclose(H + 1, 0, 1), (1, 0, 0)),
-               (wire.enclose(0, ONE + 1, 1), (2, 0, 0))]
+               (wire.enclose(1, ONE, 5), (0, 756_153, 952_744)),
+               (wire.enclose(-1, ONE, 5), (0, -952_744, -756_153))]
     return stated
 
 
-def verdicts():
+def circles():
     """The least double lies above 0, and with A = 0 the root is M: within one
-    unit of it are 0 and 1, within none is no whole number. A guess of 2^-9 at
-    M = 0, e = 1 is no good for all its residual, and 2^-8 is refuted."""
-    flattered, far_off = doubles.of_units(524_288), doubles.of_units(1_048_576)
+    unit of it are 0 and 1, within none is no whole number."""
     top = doubles.of_units(T)
-    return [(wire.judge(0, 0, 1, 0, 1), (0, REFUTED)),
-            (wire.judge(1, 0, 1, 0, 1), (0, REFUTED)),
-            (wire.judge(0, 0, 1, 1, 1), (0, CONFIRMED)),
-            (wire.judge(1, 0, 1, 1, 1), (0, CONFIRMED)),
-            (wire.judge(2, 0, 1, 1, 1), (0, REFUTED)),
-            (wire.judge(0, ONE, 0, 0, 5), (0, CONFIRMED)),
-            (wire.judge(0, ONE, 0, 1, 5), (0, UNDECIDED)),
-            (wire.judge(0, ONE, flattered, 1_000, 5), (0, UNDECIDED)),
-            (wire.judge(0, ONE, far_off, 1_000, 5), (0, REFUTED)),
-            (wire.judge(H, 0, top, 64, 5), (0, CONFIRMED)),
-            (wire.judge(H, 0, top + 1, 64, 5), (4, 0))]
+    rows = [(1, 1, 0, 1, (0, REFUTED)), (1, 1, 1, 1, (0, CONFIRMED)),
+            (2, 1, 1, 1, (0, REFUTED)), (H, top, 64, 5, (0, CONFIRMED)),
+            (H, top + 1, 64, 5, (4, 0))]
+    return [(wire.judge(sign * m, 0, bits + minus, n, d), answer)
+            for m, bits, n, d, answer in rows
+            for sign, minus in zip(SIGNS, (0, doubles.SIGN))]
+
+
+def verdicts():
+    """M = 0 takes estimates from 0 up, and either zero is 0 for every M. A
+    guess of 2^-9 at M = 0, e = 1 is no good for all its residual, and 2^-8 is
+    refuted."""
+    flattered, far_off = doubles.of_units(524_288), doubles.of_units(1_048_576)
+    minus = doubles.SIGN
+    stated = [(wire.judge(0, 0, 1, 0, 1), (0, REFUTED)),
+              (wire.judge(0, 0, 1, 1, 1), (0, CONFIRMED)),
+              (wire.judge(0, ONE, flattered, 1_000, 5), (0, UNDECIDED)),
+              (wire.judge(0, ONE, far_off, 1_000, 5), (0, REFUTED)),
+              (wire.judge(0, ONE, minus + 1, 0, 5), (4, 0)),
+              (wire.judge(1, 0, minus + 1, 0, 5), (4, 0)),
+              (wire.judge(-1, 0, 1, 0, 5), (4, 0))]
+    for zero in (0, minus):
+        stated += [(wire.judge(0, ONE, zero, 0, 5), (0, CONFIRMED)),
+                   (wire.judge(0, ONE, zero, 1, 5), (0, UNDECIDED))]
+        stated += [(wire.judge(m, 0, zero, 1, 1), (0, CONFIRMED))
+                   for m in (1, -1)]
+        stated += [(wire.judge(m, 0, zero, 0, 1), (0, REFUTED))
+                   for m in (1, -1)]
+    return stated
 
 
 def stated():
     """Every call with its answer."""
     sines = [(wire.sine(x, d), (0, lo, hi)) for x, d, lo, hi in SINES]
-    sines += [(wire.sine(T + 1, 5), (10, 0, 0))]
-    batch = [(BATCH, (0, 2, b"\x10\x12\xEE", BATCH.claims))]
-    return sines + ends() + enclosures() + verdicts() + batch
+    sines += [(wire.sine(x, 5), (10, 0, 0)) for x in (T + 1, 2 ** 32 - 1)]
+    batches = [(BATCH, (0, 2, b"\x10\x12\xEE", BATCH.claims)),
+               (NEGATIVE_BATCH, (0, 6, b"\x10\x04\x10\x01\x01\x11\xEE",
+                                 NEGATIVE_BATCH.claims))]
+    return sines + ends() + enclosures() + circles() + verdicts() + batches

@@ -8,7 +8,9 @@ SINE, LOWER_END, UPPER_END, ENCLOSE, PROPOSE, JUDGE, BATCH = range(7)
 NAMES = ("sine", "lower_end", "upper_end", "enclose", "propose", "judge",
          "judge_claims")
 
-REQUEST = struct.Struct("<6IQ")
+# M and X are signed, but for the X of sine.
+REQUEST = struct.Struct("<I2i3IQ")
+SINE_REQUEST = struct.Struct("<2Ii3IQ")
 REPLY = struct.Struct("<5q")
 
 
@@ -57,10 +59,12 @@ def judge(m, a, bits, n, depth):
 
 
 def encode(call):
+    if call.entry == SINE:
+        return SINE_REQUEST.pack(*call)
     if call.entry != BATCH:
         return REQUEST.pack(*call)
-    head = REQUEST.pack(BATCH, len(call.claims), call.answers_len,
-                        len(call.answers), 0, 0, 0)
+    head = REQUEST.pack(BATCH, 0, 0, len(call.claims), call.answers_len,
+                        len(call.answers), 0)
     return head + call.claims + call.answers
 
 

@@ -2,18 +2,23 @@
 use mathlib.Core.Path.{_≡_, refl, sym, ap}
 use mathlib.Core.Bool.{Bool, true, false, not, _&&_, true≢false}
 use mathlib.Core.Logic.{_⊎_, inl, inr, _↔_}
-use Prim.Native.Nat.{ℕ, _+_, _*_, _<_}
+use Prim.Native.Nat.{ℕ, zero, suc, _+_, _*_, _<_}
+use native.Mathlib.Omega.{arith}
 use borrow.Author.Tests.{ltb-true, lt-ltb, eqb-false, ne-eqb, not-true}
-use lib.Dec.{T, ltb, eqb}
-use lib.Ieee.{Float, nan, inf, fin}
+use lib.Dec.{T, ltb, eqb, ltb→lt, lt→ltb}
+use lib.IntN.{ℤ, pos, negsuc, natAbs}
+use lib.Ieee.{Float, nan, inf, fin, neg}
 use lib.Ieee.Positive.{den}
 use Rattle.grid.specs.Grid.{T-units}
-use Rattle.grid.specs.Codes.{or}
+use Rattle.whole.specs.Sign.{negative}
+use Rattle.whole.proofs.CodeRoom.{size-sign}
+use Rattle.grid.specs.Codes.{or, signed-x-check}
+use Rattle.orbit.specs.Mirror.{mirror}
 use Rattle.ends.specs.Ends.{upperEnd}
-use Rattle.units.specs.Units.{product, offRange, estimate-check}
+use Rattle.units.specs.Units.{mirrorDouble, product, offRange, estimate-check}
 use Rattle.little.proofs.Digits.{one-byte}
 use Rattle.claims.specs.Form.{twenty}
-use Rattle.promises.specs.Conditions.{OffRange, Exactly, Conditions}
+use Rattle.promises.specs.Conditions.{Opposes, OffRange, Exactly, Conditions}
 
 less : (a b : ℕ) → ltb a b ≡ true ↔ a < b
 less a b = (ltb-true a b, lt-ltb a b)
@@ -30,17 +35,43 @@ either : (s t : Bool) {P Q : Type 0} → (s ≡ true ↔ P) → (t ≡ true ↔ 
 either true t p q = (λ e. inl (p .0 refl), λ h. refl)
 either false t p q = (λ e. inr (q .0 e), λ h. elim h [ inl x ↦ absurd (true≢false (sym (p .1 x))) | inr y ↦ q .1 y ])
 
-both : (s t : Bool) {Q : Type 0} → (t ≡ true ↔ Q) → s && t ≡ true ↔ (s ≡ true) × Q
-both true t q = (λ e. (refl, q .0 e), λ h. q .1 (h .1))
-both false t q = (λ e. absurd (true≢false (sym e)), λ h. h .0)
+both : (s t : Bool) {P Q : Type 0} → (s ≡ true ↔ P) → (t ≡ true ↔ Q) → s && t ≡ true ↔ P × Q
+both true t p q = (λ e. (p .0 refl, q .0 e), λ h. q .1 (h .1))
+both false t p q = (λ e. absurd (true≢false (sym e)), λ h. p .1 (h .0))
 
-off-range : (x : Float) → Exactly (estimate-check x) (OffRange x)
-unfolding offRange
-off-range nan = (λ e. tt, λ h. refl)
-off-range (inf s) = (λ e. tt, λ h. refl)
-off-range (fin s m e) =
-    either (s && ltb 0 m) (ltb (T-units * den (fin s m e)) (product (fin s m e))) (both s (ltb 0 m) (less 0 m))
-    (less (T-units * den (fin s m e)) (product (fin s m e)))
+-- a sign, mirrored: minus on the one side is plus on the other
+flipped : (s : Bool) → not s ≡ true ↔ s ≡ false
+flipped true = (λ e. sym e, λ e. sym e)
+flipped false = (λ e. refl, λ e. refl)
+
+by-size : (s : Bool) (m : ℕ) (e : ℤ) {P : Type 0} → (s ≡ true ↔ P)
+    → or (s && ltb 0 m) (ltb (T-units * den (fin s m e)) (product (fin s m e))) ≡ true
+    ↔ (P × (0 < m)) ⊎ (T-units * den (fin s m e) < product (fin s m e))
+by-size s m e p =
+    either (s && ltb 0 m) (ltb (T-units * den (fin s m e)) (product (fin s m e))) (both s (ltb 0 m) p (less 0 m)) (less _ _)
+
+off-range : (mirrored : Bool) (x : Float) → Exactly (estimate-check (mirrorDouble mirrored x)) (OffRange mirrored x)
+unfolding offRange neg
+off-range false nan = (λ e. tt, λ h. refl)
+off-range false (inf s) = (λ e. tt, λ h. refl)
+off-range false (fin s m e) = by-size s m e (λ p. p, λ p. p)
+off-range true nan = (λ e. tt, λ h. refl)
+off-range true (inf s) = (λ e. tt, λ h. refl)
+off-range true (fin s m e) = by-size (not s) m e (flipped s)
+
+-- ---- the tested angle, mirrored with M
+
+opposes : (mirrored : Bool) (x : ℤ) → negative (mirror mirrored x) ≡ true ↔ Opposes mirrored x
+opposes false (pos n) = (λ e. absurd (true≢false (sym e)), λ h. absurd (let k : ⊥ = let l = ltb→lt n 0 (h .lt) in omega arith in k))
+opposes false (negsuc n) = (λ e. record { lt = tt }, λ h. refl)
+opposes true (pos zero) = (λ e. absurd (true≢false (sym e)), λ h. absurd (let k : ⊥ = let l = ltb→lt 0 0 (h .lt) in omega arith in k))
+opposes true (pos (suc n)) = (λ e. record { lt = lt→ltb 0 (suc n) (omega arith) }, λ h. refl)
+opposes true (negsuc n) = (λ e. absurd (true≢false (sym e)), λ h. absurd (h .lt))
+
+tested : (mirrored : Bool) (x : ℤ) → Exactly (signed-x-check (mirror mirrored x)) (Opposes mirrored x ⊎ (T-units < natAbs x))
+tested mirrored x =
+    either (negative (mirror mirrored x)) (ltb T-units (natAbs (mirror mirrored x))) (opposes mirrored x)
+    (rw (size-sign (not mirrored) x) (less T-units (natAbs x)))
 
 pub conditions : Conditions
 conditions =
@@ -55,4 +86,5 @@ conditions =
       short-answers = λ bytes room. less _ _;
       reserved = λ claims start. rw (one-byte claims (start + twenty .reserved .at)) (differ _ _);
       x = λ x. less _ _;
+      tested = tested;
     }

@@ -4,12 +4,13 @@ use mathlib.Core.Bool.{true, false}
 use mathlib.Core.List.{List, [], _∷_}
 use Prim.Native.Nat.{ℕ}
 use lib.Dec.{T}
+use lib.IntN.{ℤ}
 use lib.Ieee.{Float}
 use lib.ListN.{length}
-use Rattle.grid.specs.Codes.{order, a-check, depth-check, x-check}
+use Rattle.grid.specs.Codes.{order, a-check, depth-check, x-check, signed-x-check}
 use Rattle.grid.specs.Refuses.{Refuses, inOrder, all}
 use Rattle.grid.proofs.Refuses.{refuses}
-use Rattle.grid.proofs.Made.{angles, eccentricities, depths-made}
+use Rattle.grid.proofs.Made.{angles, signed-angles, eccentricities, depths-made}
 use Rattle.series.specs.Entry.{sineChecks, sineRule}
 use Rattle.series.proofs.SineRefuses.{sines}
 use Rattle.units.specs.Units.{estimate-check}
@@ -47,13 +48,13 @@ bytes claims i =
     refuses codeOfByte (λ k. k) (verdictNumber v) (verdict-code v) (recordChecks twenty claims i)
     (refl, (refl, (refl, (refl, (refl, (refl, tt)))))) tt
 
-in-order : (x a d n i : ℕ) (g : Given) (f : Float) (claims answers : List ℕ)
+in-order : (x a d n i : ℕ) (z : ℤ) (g : Given) (f : Float) (claims answers : List ℕ)
     → T (all (inOrder order)
-    (sineChecks x d ∷ endChecks x g d ∷ enclosureChecks g d ∷ checksOf g ∷ problemChecks g d
+    (sineChecks x d ∷ endChecks z g d ∷ enclosureChecks g d ∷ checksOf g ∷ problemChecks g d
     ∷ claimChecks (record { given = g; estimate = f; n = n; depth = d }) ∷ batchChecks twenty (length claims) (length answers)
-    ∷ recordChecks twenty claims i ∷ (x-check x ∷ []) ∷ (a-check a ∷ []) ∷ (depth-check d ∷ []) ∷ (estimate-check f ∷ []) ∷ []))
+    ∷ recordChecks twenty claims i ∷ (x-check x ∷ []) ∷ (signed-x-check z ∷ []) ∷ (a-check a ∷ []) ∷ (depth-check d ∷ []) ∷ (estimate-check f ∷ []) ∷ []))
 unfolding order
-in-order x a d n i (grid m b) f claims answers = tt
+in-order x a d n i z (grid m b) f claims answers = tt
 
 pub demand-1 : Demand1
 unfolding sineRule proposalRule judgeRule batchRule order
@@ -69,6 +70,7 @@ demand-1 =
       lent = refused-kept twenty;
       byte = bytes;
       angle = λ x. angles x .demand;
+      signed-angle = λ x. signed-angles x .demand;
       eccentricity = λ a. eccentricities a .demand;
       depth = λ d. depths-made d .demand;
       cell = λ g. cells g .demand;

@@ -1,17 +1,25 @@
 -- The third demand is met. Assumes nothing.
-use mathlib.Core.Path.{_≡_, sym, ap, _∙_}
-use mathlib.Core.Bool.{true, false}
+use mathlib.Core.Path.{_≡_, sym, ap, subst, _∙_}
+use mathlib.Core.Bool.{Bool, true, false}
 use mathlib.Core.List.{List, [], _∷_}
 use mathlib.Core.Logic.{inl, inr}
 use Prim.Native.Nat.{ℕ, _*_, _≤_}
 use native.Mathlib.Omega.{arith}
 use native.Mathlib.Nat.{lt-of-not-le}
 use native.Mathlib.Decide.{decLe}
-use Rattle.grid.specs.Grid.{depths}
+use lib.Dec.{T}
+use lib.IntN.{ℤ, pos, natAbs}
+use lib.Signed.{_≤ℤ_}
+use Rattle.grid.specs.Grid.{T-units, depths}
 use Rattle.grid.proofs.FirstCode.{goes}
-use Rattle.orbit.specs.Given.{cellOf}
+use Rattle.orbit.specs.Mirror.{mirror, mirrorEnd}
+use Rattle.orbit.specs.Cell.{CellIn}
+use Rattle.orbit.specs.Given.{Given, mirroredOf, cellOf}
+use Rattle.orbit.specs.declared.Cell.{Cell}
+use Rattle.ends.specs.Ends.{endAt}
+use Rattle.ends.specs.Entry.{flagged, lowerRule, upperRule}
 use Rattle.ends.proofs.Apart.{apart}
-use Rattle.enclosure.proofs.Encloses.{deeper-within}
+use Rattle.enclosure.proofs.Encloses.{code-zero, deeper-within}
 use Rattle.judge.specs.Verdict.{verdictNumber}
 use Rattle.judge.specs.Judge.{Claim, verdict, judgeRule}
 use Rattle.judge.specs.declared.Judged.{Judged}
@@ -25,6 +33,7 @@ use Rattle.claims.specs.Record.{reserved-check, claimAt, answerAt}
 use Rattle.claims.proofs.AnswerBytes.{byteOf, byte-is}
 use Rattle.promises.specs.Demand3.{Settled, Again, Demand3}
 use Rattle.promises.proofs.Bytes.{byte-judged}
+use Rattle.promises.proofs.Mirror.{pos-le, neg-le, inside}
 use Rattle.promises.proofs.Ends.{accepted-says}
 
 two-verdicts : (r : Judged) → r ≡ verdict Confirmed → r ≡ verdict Refuted → ⊥
@@ -76,6 +85,24 @@ bytes-never-both claims others i j e again s t =
     never-both c (c .depth) e (byte-judged claims i Confirmed s)
     (sym (ap judgeRule (again .claim)) ∙ byte-judged others j Refuted t)
 
+-- ---- the ends
+
+-- R21: on the mirror the upper end is the lower one
+module _ (c : Cell) (X Y d e : ℕ) (i : CellIn c) (x : X ≤ T-units) (y : Y ≤ T-units) (j : d ≤ depths) (k : e ≤ depths) where
+  mirrored-apart : (mirrored : Bool) → T (endAt (mirrorEnd mirrored false) c d X) → T (endAt (mirrorEnd mirrored true) c e Y)
+      → mirror mirrored (pos X) ≤ℤ mirror mirrored (pos Y)
+  mirrored-apart false p q = pos-le (apart c X Y d e i x y j k p q)
+  mirrored-apart true p q = neg-le (apart c Y X e d i y x k j q p)
+
+ends-apart : (x y : ℤ) (g : Given) (d e : ℕ) → lowerRule x g d ≡ flagged true → upperRule y g e ≡ flagged true → x ≤ℤ y
+ends-apart x y g d e s t =
+    let (f, p) = accepted-says false x g d s in
+    let (k, q) = accepted-says true y g e t in
+    subst (λ (z : ℤ). z ≤ℤ y) (sym (f .side .sign))
+    (subst (λ (z : ℤ). mirror (mirroredOf g) (pos (natAbs x)) ≤ℤ z) (sym (k .side .sign))
+    (mirrored-apart (cellOf g) (natAbs x) (natAbs y) d e (f .problem .cell) (f .side .angle) (k .side .angle)
+    (f .problem .depth .few) (k .problem .depth .few) (mirroredOf g) p q))
+
 pub demand-3 : Demand3
 demand-3 =
     record {
@@ -84,9 +111,8 @@ demand-3 =
       never-both = never-both;
       byte-kept = byte-kept;
       bytes-never-both = bytes-never-both;
-      apart = λ x y g d e s t.
-          let (f, p) = accepted-says false x g d s in
-          let (k, q) = accepted-says true y g e t in
-          apart (cellOf g) x y d e (f .problem .cell) (f .angle) (k .angle) (f .problem .depth .few) (k .problem .depth .few) p q;
-      within = λ g d e h s t. let w = deeper-within g d e h s t in record { lower = w .0; upper = w .1 };
+      apart = ends-apart;
+      within = λ g d e h s t.
+          let w = deeper-within (cellOf g) d e h in
+          rw (code-zero g d s .ends, code-zero g e t .ends) (inside _ _ _ _ (mirroredOf g) (w .0) (w .1));
     }

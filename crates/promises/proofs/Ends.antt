@@ -1,22 +1,26 @@
--- What an end test entry's answer says of the test, for either end. Assumes nothing.
-use mathlib.Core.Path.{_≡_, refl, sym, ap, _∙_, subst}
+-- What an end test entry's answer says of the test, for either end and either sign of M. Assumes nothing.
+use mathlib.Core.Path.{_≡_, refl, sym, ap, subst, _∙_}
 use mathlib.Core.Bool.{Bool, true, false, not}
 use mathlib.Core.List.{[], _∷_}
 use Prim.Native.Nat.{ℕ, _≤_}
 use native.Mathlib.Omega.{arith}
-use borrow.Author.Tests.{le-ltb}
 use lib.Dec.{T, T-not}
+use lib.IntN.{ℤ, pos, natAbs}
 use Rattle.whole.proofs.Bools as test
-use Rattle.grid.specs.Grid.{T-units}
-use Rattle.grid.specs.Codes.{Passed, bad-x, x-check}
+use Rattle.whole.proofs.CodeRoom.{size-sign}
+use Rattle.grid.specs.Grid.{T-units, depths}
+use Rattle.grid.specs.Codes.{Passed, signed-x-check}
 use Rattle.grid.proofs.FirstCode.{split, join}
-use Rattle.grid.proofs.Fits.{limit-fits}
-use Rattle.orbit.specs.Given.{Given, cellOf, problemChecks, problemAt, ProblemIn}
+use Rattle.orbit.specs.Mirror.{mirror, mirrorEnd}
+use Rattle.orbit.specs.Given.{Given, grid, mirroredOf, cellOf, exactOf, problemChecks, problemAt, ProblemIn}
 use Rattle.orbit.proofs.Posed.{problem-in}
 use Rattle.ends.specs.Ends.{endAt}
-use Rattle.ends.specs.Entry.{flagged, endRule}
+use Rattle.ends.specs.Entry.{flagged, endOf, endRule}
+use Rattle.ends.specs.Exact.{EndExact, EndSpare}
 use Rattle.ends.specs.declared.End.{End}
 use Rattle.ends.proofs.Answered.{flag-done, ends}
+use Rattle.ends.proofs.Mirror.{twice, end-true, spare-accepted}
+use Rattle.promises.proofs.Mirror.{Side, side-of, check-side, side-checks}
 
 is-test : (s t : Bool) → flagged s ≡ flagged t → s ≡ t
 is-test true true e = refl
@@ -24,39 +28,74 @@ is-test true false e = let f = ap (λ (r : End). r .accepted) e in absurd (let z
 is-test false true e = let f = ap (λ (r : End). r .accepted) e in absurd (let z : ⊥ = omega arith in z)
 is-test false false e = refl
 
--- an answer of code 0: the problem's checks passed and the angle is in range
-pub record Posed (x : ℕ) (g : Given) (d : ℕ) : Type 0 where
+-- an answer of code 0: the problem's checks passed, and X is the mirror of an angle in range
+pub record Posed (X : ℤ) (g : Given) (d : ℕ) : Type 0 where
   pub checks : Passed (problemChecks g d)
   pub problem : ProblemIn (problemAt (cellOf g) d)
-  pub angle : x ≤ T-units
+  pub side : Side (mirroredOf g) X
 
-pub posed : (upper : Bool) (x : ℕ) (g : Given) (d : ℕ) → endRule upper x g d .code ≡ 0 → Posed x g d
-posed upper x g d z =
-    let (p, q) = split (problemChecks g d) (x-check x ∷ []) (ends upper x g d .demand .passed .0 z) in
-    record { checks = p; problem = problem-in g d p; angle = limit-fits x T-units bad-x (q .0) }
+posed : (upper : Bool) (X : ℤ) (g : Given) (d : ℕ) → endRule upper X g d .code ≡ 0 → Posed X g d
+posed upper X g d z =
+    let (p, q) = split (problemChecks g d) (signed-x-check (mirror (mirroredOf g) X) ∷ []) (ends upper X g d .demand .passed .0 z) in
+    record { checks = p; problem = problem-in g d p; side = check-side (mirroredOf g) X (q .0) }
 
-module _ (upper : Bool) (x : ℕ) (g : Given) (d : ℕ) where
-  answered : Passed (problemChecks g d) → x ≤ T-units → endRule upper x g d ≡ flagged (endAt upper (cellOf g) d x)
-  answered p h =
-      let m = ends upper x g d in
-      m .says _ refl .made (m .demand .passed .1 (join (problemChecks g d) (x-check x ∷ []) p (le-ltb T-units x h, tt)))
+module _ (upper : Bool) (X : ℤ) (g : Given) (d : ℕ) where
+  answered : Passed (problemChecks g d) → Side (mirroredOf g) X → endRule upper X g d ≡ flagged (endOf upper g d X)
+  answered p s =
+      let m = ends upper X g d in
+      m .says _ refl .made
+      (m .demand .passed .1
+      (join (problemChecks g d) (signed-x-check (mirror (mirroredOf g) X) ∷ []) p (side-checks (mirroredOf g) X s, tt)))
 
-  known : (t : Bool) → endRule upper x g d ≡ flagged t → Posed x g d × (endAt upper (cellOf g) d x ≡ t)
+  known : (t : Bool) → endRule upper X g d ≡ flagged t → Posed X g d × (endOf upper g d X ≡ t)
   known t e =
-      let f = posed upper x g d (ap (λ (r : End). r .code) e ∙ flag-done t) in
-      (f, is-test (endAt upper (cellOf g) d x) t (sym (answered (f .checks) (f .angle)) ∙ e))
+      let f = posed upper X g d (ap (λ (r : End). r .code) e ∙ flag-done t) in
+      (f, is-test (endOf upper g d X) t (sym (answered (f .checks) (f .side)) ∙ e))
 
   -- what an answer says: what was asked, and what the test was
-  pub accepted-says : endRule upper x g d ≡ flagged true → Posed x g d × T (endAt upper (cellOf g) d x)
+  pub accepted-says : endRule upper X g d ≡ flagged true → Posed X g d × T (endOf upper g d X)
   accepted-says e = let k = known true e in (k .0, subst T (sym (k .1)) tt)
 
-  pub declined-says : endRule upper x g d ≡ flagged false → Posed x g d × (T (endAt upper (cellOf g) d x) → ⊥)
+  pub declined-says : endRule upper X g d ≡ flagged false → Posed X g d × (T (endOf upper g d X) → ⊥)
   declined-says e = let k = known false e in (k .0, λ t. subst T (k .1) t)
 
   -- and the answer from these
-  pub accepts : Passed (problemChecks g d) → x ≤ T-units → T (endAt upper (cellOf g) d x) → endRule upper x g d ≡ flagged true
-  accepts p h t = answered p h ∙ ap flagged (sym (test.passes (endAt upper (cellOf g) d x) t))
+  pub accepts : Passed (problemChecks g d) → Side (mirroredOf g) X → T (endOf upper g d X) → endRule upper X g d ≡ flagged true
+  accepts p s t = answered p s ∙ ap flagged (sym (test.passes (endOf upper g d X) t))
 
-  pub declines : Passed (problemChecks g d) → x ≤ T-units → T (not (endAt upper (cellOf g) d x)) → endRule upper x g d ≡ flagged false
-  declines p h t =
-      answered p h ∙ ap flagged (sym (test.fails (endAt upper (cellOf g) d x) (T-not (endAt upper (cellOf g) d x) t)))
+  -- R19
+  pub exact-says : endRule upper X g d ≡ flagged true → EndExact upper (exactOf g) X
+  exact-says e =
+      let (f, t) = accepted-says e in
+      let s = f .side in
+      subst (EndExact upper (exactOf g)) (sym (s .sign))
+      (subst (λ (u : Bool). EndExact u (exactOf g) (mirror (mirroredOf g) (pos (natAbs X)))) (twice (mirroredOf g) upper)
+      (end-true (mirrorEnd (mirroredOf g) upper) g (natAbs X) (s .angle) d (f .problem .depth .few) t))
+
+-- R20, on the grid
+pub spare-says : (upper : Bool) (X m : ℤ) (a : ℕ) → endRule upper X (grid m a) depths ≡ flagged false
+    → EndSpare upper (exactOf (grid m a)) X → ⊥
+spare-says upper X m a e h =
+    let g = grid m a in
+    let (f, n) = declined-says upper X g depths e in
+    let s = f .side in
+    n
+    (spare-accepted (mirrorEnd (mirroredOf g) upper) m a (natAbs X) (s .angle)
+    (subst (λ (u : Bool). EndSpare u (exactOf g) (mirror (mirroredOf g) (pos (natAbs X)))) (sym (twice (mirroredOf g) upper))
+    (subst (EndSpare upper (exactOf g)) (s .sign) h)))
+
+-- ---- an end of the problem that was posed, mirrored back
+
+module _ (upper : Bool) (X : ℕ) (g : Given) (d : ℕ) (p : Passed (problemChecks g d)) (h : X ≤ T-units) where
+  mirrored-answer : endRule (mirrorEnd (mirroredOf g) upper) (mirror (mirroredOf g) (pos X)) g d ≡ flagged (endAt upper (cellOf g) d X)
+  mirrored-answer =
+      answered (mirrorEnd (mirroredOf g) upper) (mirror (mirroredOf g) (pos X)) g d p (side-of (mirroredOf g) X h)
+      ∙ rw (twice (mirroredOf g) upper, size-sign (not (mirroredOf g)) (pos X))
+
+  pub accepts-at : T (endAt upper (cellOf g) d X) → endRule (mirrorEnd (mirroredOf g) upper) (mirror (mirroredOf g) (pos X)) g d ≡ flagged true
+  accepts-at t = mirrored-answer ∙ ap flagged (sym (test.passes (endAt upper (cellOf g) d X) t))
+
+  pub declines-at : T (not (endAt upper (cellOf g) d X))
+      → endRule (mirrorEnd (mirroredOf g) upper) (mirror (mirroredOf g) (pos X)) g d ≡ flagged false
+  declines-at t =
+      mirrored-answer ∙ ap flagged (sym (test.fails (endAt upper (cellOf g) d X) (T-not (endAt upper (cellOf g) d X) t)))

@@ -1,32 +1,41 @@
 -- The further promises of the rules are kept. Assumes nothing.
-use mathlib.Core.Path.{_≡_, refl}
+use mathlib.Core.Path.{_≡_, refl, sym, subst}
 use mathlib.Core.Bool.{Bool, true, false}
 use mathlib.Core.List.{[], _∷_}
-use Prim.Native.Nat.{ℕ, _+_, _^_, _≤_, _<_}
+use Prim.Native.Nat.{ℕ, suc, _+_, _^_, _≤_, _<_}
 use native.Mathlib.Omega.{arith}
-use lib.Ieee.{binary64, ofBits}
+use lib.IntN.{ℤ, pos, negsuc, natAbs}
+use lib.Ieee.{Float, binary64, ofBits, neg}
+use Rattle.whole.proofs.CodeRoom.{size-sign}
 use Rattle.grid.specs.Grid.{T-units, depths}
 use Rattle.grid.specs.Codes.{depth-check}
 use Rattle.grid.proofs.FirstCode.{split, join}
 use Rattle.grid.proofs.Fits.{depth-passes}
+use Rattle.grid.proofs.Refuses.{through}
 use Rattle.series.proofs.Factorial.{den-is, num-is}
 use Rattle.series.proofs.Falling.{sine-odd-never-falls, sine-even-never-rises}
 use Rattle.series.proofs.Deeper.{Lo-rises, Hi-falls}
-use Rattle.orbit.specs.Given.{Given, checksOf, cellOf}
+use Rattle.orbit.specs.Mirror.{mirrorEnd}
+use Rattle.orbit.specs.Given.{Given, grid, checksOf, mirroredOf, cellOf}
+use Rattle.orbit.proofs.Posed.{problem-in}
 use Rattle.ends.specs.Entry.{flagged, endRule}
 use Rattle.ends.proofs.Corners as tests
 use Rattle.ends.proofs.Known.{zero-lower, T-never}
 use Rattle.enclosure.specs.Halving.{widest, lastBracket}
+use Rattle.enclosure.specs.Enclosure.{refusal, enclosed, enclosureChecks, enclosureRule}
 use Rattle.enclosure.proofs.Halving.{thirty-end, turns-inside}
 use Rattle.enclosure.proofs.Encloses.{never-six}
 use Rattle.rotations.specs.Table.{table}
 use Rattle.rotations.proofs.Table.{entry-right, den-pos, G-right}
+use Rattle.proposal.specs.Propose.{proposed, mirrorProposal, proposalRefused, proposalRule}
 use Rattle.proposal.proofs.Certificate.{certified, concluded-true}
+use Rattle.judge.specs.Judge.{judgeRule}
 use Rattle.units.specs.Units.{offRange, unitsWith, codedEstimate}
 use Rattle.units.proofs.Rounding.{made-exact, made-rounded}
 use Rattle.claim_file.proofs.Output as program
-use Rattle.promises.specs.Further.{Sums, Ends, Searches, Proposals, Estimates, Further}
-use Rattle.promises.proofs.Ends.{posed, accepted-says, accepts, declines}
+use Rattle.promises.specs.Further.{exchanged, claim, Sums, Ends, Searches, Proposals, Estimates, Mirrored, Further}
+use Rattle.promises.proofs.Mirror.{at-0}
+use Rattle.promises.proofs.Ends.{accepted-says, accepts, accepts-at, declines-at}
 
 sums : Sums
 sums =
@@ -42,14 +51,14 @@ sums =
 -- ---- the end tests
 
 -- at a greater depth, for either end
-deeper : (upper : Bool) (x : ℕ) (g : Given) (d e : ℕ) → d ≤ e → e ≤ depths
+deeper : (upper : Bool) (x : ℤ) (g : Given) (d e : ℕ) → d ≤ e → e ≤ depths
     → endRule upper x g d ≡ flagged true → endRule upper x g e ≡ flagged true
 deeper upper x g d e h few s =
     let (f, t) = accepted-says upper x g d s in
     let some = f .problem .depth .some in
     let (cell, depth) = split (checksOf g) (depth-check d ∷ []) (f .checks) in
-    accepts upper x g e (join (checksOf g) (depth-check e ∷ []) cell (depth-passes e (omega arith) few, tt)) (f .angle)
-    (tests.deeper upper (cellOf g) x h t)
+    accepts upper x g e (join (checksOf g) (depth-check e ∷ []) cell (depth-passes e (omega arith) few, tt)) (f .side)
+    (tests.deeper (mirrorEnd (mirroredOf g) upper) (cellOf g) (natAbs x) h t)
 
 end-laws : Ends
 end-laws =
@@ -58,11 +67,12 @@ end-laws =
       upper-corners = tests.above-corners;
       lower-deeper = deeper false;
       upper-deeper = deeper true;
-      zero-always = λ g d e.
-          let f = posed false 0 g d e in accepts false 0 g d (f .checks) (f .angle) (zero-lower (cellOf g) d);
-      T-never = λ g d e.
-          let f = posed false T-units g d e in
-          declines false T-units g d (f .checks) (f .angle) (T-never (cellOf g) d (f .problem .cell) (f .problem .depth .few));
+      zero-always = λ g d p.
+          subst (λ (x : ℤ). endRule (mirrorEnd (mirroredOf g) false) x g d ≡ flagged true) (at-0 (mirroredOf g))
+          (accepts-at false 0 g d p (omega arith) (zero-lower (cellOf g) d));
+      T-never = λ g d p.
+          let i = problem-in g d p in
+          declines-at false T-units g d p (omega arith) (T-never (cellOf g) d (i .cell) (i .depth .few));
     }
 
 -- ---- the searches
@@ -103,6 +113,34 @@ estimates =
       minus-zero = minus-zero;
     }
 
+-- ---- the mirror
+
+-- a function of an answer by checks that leaves refusals alone
+enclose-mirrored : (m a d : ℕ) → enclosureRule (grid (negsuc m) a) d ≡ exchanged (enclosureRule (grid (pos (suc m)) a) d)
+enclose-mirrored m a d =
+    let g = grid (pos (suc m)) a in
+    sym (through exchanged refusal (enclosed false (cellOf g) d) (enclosureChecks g d))
+
+propose-mirrored : (m a : ℕ) → proposalRule (grid (negsuc m) a) ≡ mirrorProposal true (proposalRule (grid (pos (suc m)) a))
+unfolding proposalRule
+propose-mirrored m a =
+    let g = grid (pos (suc m)) a in
+    sym (through (mirrorProposal true) proposalRefused (mirrorProposal false (proposed (cellOf g))) (checksOf g))
+
+judge-mirrored : (m a : ℕ) (x : Float) (n d : ℕ)
+    → judgeRule (claim (grid (negsuc m) a) x n d) ≡ judgeRule (claim (grid (pos (suc m)) a) (neg x) n d)
+unfolding judgeRule
+judge-mirrored m a x n d = refl
+
+mirrored : Mirrored
+mirrored =
+    record {
+      ends = λ upper x m a d. rw (size-sign false x);
+      enclose = enclose-mirrored;
+      propose = propose-mirrored;
+      judge = judge-mirrored;
+    }
+
 pub further : Further
 further =
     record {
@@ -111,5 +149,6 @@ further =
       searches = searches;
       proposals = proposals;
       estimates = estimates;
+      mirrored = mirrored;
       program = record { complete = program.complete; longer = program.longer; cut = program.cut };
     }

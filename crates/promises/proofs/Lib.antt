@@ -1,6 +1,7 @@
 pub mod Conditions
 pub mod Demand1
 pub mod Rules
+pub mod Mirror
 pub mod Ends
 pub mod Bytes
 pub mod Demand2

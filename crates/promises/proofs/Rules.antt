@@ -4,7 +4,7 @@ use mathlib.Core.Bool.{true, false}
 use Prim.Native.Nat.{ℕ}
 use lib.ListN.{length}
 use Rattle.grid.proofs.FirstCode.{goes}
-use Rattle.grid.proofs.Made.{angles, eccentricities, depths-made}
+use Rattle.grid.proofs.Made.{angles, signed-angles, eccentricities, depths-made}
 use Rattle.series.specs.Entry.{sineRule}
 use Rattle.series.proofs.SineRefuses.{sines}
 use Rattle.units.proofs.Made.{estimates}
@@ -44,6 +44,7 @@ rules =
       beyond = byte-kept twenty;
       room = length-kept twenty;
       angle = λ x. angles x .says _ refl .made;
+      signed-angle = λ x. signed-angles x .says _ refl .made;
       eccentricity = λ a. eccentricities a .says _ refl .made;
       depth = λ d. depths-made d .says _ refl .made;
       cell = λ g. cells g .says _ refl .made;

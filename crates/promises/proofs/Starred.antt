@@ -2,7 +2,7 @@
 use mathlib.Core.Path.{refl}
 use Prim.Native.Nat.{ℕ, _≤_}
 use borrow.Author.Tests.{le-ltb}
-use lib.Ieee.{ofBits}
+use lib.Ieee.{neg, ofBits}
 use Rattle.series.specs.Terms.{l, u}
 use Rattle.series.specs.Bounds.{evens, odds, rawLow, rawHigh, greatestLow, leastHigh}
 use Rattle.series.specs.Entry.{sineRule}
@@ -36,10 +36,12 @@ list =
     and refl and refl and refl and refl and refl and refl and refl and refl and refl and refl and refl and tt
 
 beside : AllHold others
-unfolding others l u evens odds rawLow rawHigh greatestLow leastHigh belowBy aboveBy offRange ofBits verdictOf confirmed refuted judgeRule littleEndian answerAt batchRule upTo answersAfter
+unfolding others l u evens odds rawLow rawHigh greatestLow leastHigh belowBy aboveBy halve turns foundLower foundUpper neg offRange ofBits verdictOf confirmed refuted judgeRule littleEndian answerAt batchRule upTo answersAfter
 beside =
-    (refl, refl) and (refl, refl) and (refl, refl) and (refl, refl) and (refl, refl) and (refl, refl) and refl and refl and refl
-    and refl and refl and refl and (refl, refl) and tt
+    (refl, refl) and (refl, refl) and (refl, refl) and (refl, refl) and (refl, refl) and (refl, refl)
+    and (refl, refl) and (refl, refl) and (refl, refl) and (refl, refl) and (refl, refl) and (refl, refl) and (refl, refl) and (refl, refl)
+    and refl and refl and refl and refl and refl and refl and refl and refl and refl and refl and refl and refl and refl
+    and (refl, refl) and (refl, refl) and tt
 
 pub starred-met : Starred
 unfolding sineRule l u evens odds rawLow rawHigh greatestLow leastHigh

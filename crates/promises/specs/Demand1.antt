@@ -5,11 +5,12 @@ use mathlib.Core.Bool.{Bool, cond}
 use mathlib.Core.List.{List, [], _∷_}
 use Prim.Native.Nat.{ℕ}
 use lib.Dec.{T, eqb}
+use lib.IntN.{ℤ}
 use lib.Ieee.{Float}
 use lib.ListN.{length}
-use Rattle.grid.specs.Codes.{number, done, order, or, a-check, depth-check, x-check}
+use Rattle.grid.specs.Codes.{number, done, order, or, a-check, depth-check, x-check, signed-x-check}
 use Rattle.grid.specs.Refuses.{Refuses, inOrder, distinct, all}
-use Rattle.grid.specs.Make.{angleWith, codedAngle, eccentricityWith, codedEccentricity, depthWith, codedDepth}
+use Rattle.grid.specs.Make.{angleWith, codedAngle, codedSigned, eccentricityWith, codedEccentricity, depthWith, codedDepth}
 use Rattle.grid.specs.declared.CodedAngle.{CodedAngle}
 use Rattle.grid.specs.declared.CodedEccentricity.{CodedEccentricity}
 use Rattle.grid.specs.declared.CodedDepth.{CodedDepth}
@@ -17,8 +18,7 @@ use Rattle.series.specs.Entry.{sineChecks, sineRefused, sineRule}
 use Rattle.series.specs.declared.SineBounds.{SineBounds}
 use Rattle.units.specs.Units.{estimate-check, zerosWith, codedEstimate}
 use Rattle.units.specs.declared.CodedUnits.{CodedUnits}
-use Rattle.orbit.specs.Cell.{gridCell}
-use Rattle.orbit.specs.Given.{Given, checksOf, cellWith, codedCell, problemChecks, problemAt, problemWith, codedProblem}
+use Rattle.orbit.specs.Given.{Given, checksOf, noCell, codedCell, problemChecks, noProblem, codedProblem}
 use Rattle.orbit.specs.declared.CodedCell.{CodedCell}
 use Rattle.orbit.specs.declared.CodedProblem.{CodedProblem}
 use Rattle.ends.specs.Entry.{endChecks, endRefused, lowerRule, upperRule}
@@ -51,8 +51,8 @@ batchOf claims answers = batchRule twenty (length claims) (length answers)
 
 pub record Demand1 : Type 0 where
   pub sine : (x d : ℕ) → Refuses (sineChecks x d) (λ (r : SineBounds). r .code) sineRefused (sineRule x d)
-  pub lower-end : (x : ℕ) (g : Given) (d : ℕ) → Refuses (endChecks x g d) (λ (r : End). r .code) endRefused (lowerRule x g d)
-  pub upper-end : (x : ℕ) (g : Given) (d : ℕ) → Refuses (endChecks x g d) (λ (r : End). r .code) endRefused (upperRule x g d)
+  pub lower-end : (x : ℤ) (g : Given) (d : ℕ) → Refuses (endChecks x g d) (λ (r : End). r .code) endRefused (lowerRule x g d)
+  pub upper-end : (x : ℤ) (g : Given) (d : ℕ) → Refuses (endChecks x g d) (λ (r : End). r .code) endRefused (upperRule x g d)
   pub enclose : (g : Given) (d : ℕ) → Refuses (enclosureChecks g d) (λ (r : Enclosure). r .code) refusal (enclosureRule g d)
   pub propose : (g : Given) → Refuses (checksOf g) (λ (r : Proposal). r .code) proposalRefused (proposalRule g)
   pub judge : (c : Claim) → Refuses (claimChecks c) (λ (r : Judged). r .code) unjudged (judgeRule c)
@@ -65,19 +65,20 @@ pub record Demand1 : Type 0 where
   pub byte : (claims : List ℕ) (i : ℕ) → Refuses (recordChecks twenty claims i) codeOfByte (λ k. k) (answerAt twenty claims i)
   -- R4: the checked constructors, and an estimate in units
   pub angle : (x : ℕ) → Refuses (x-check x ∷ []) (λ (r : CodedAngle). r .code) (λ k. angleWith k 0) (codedAngle x)
+  pub signed-angle : (x : ℤ)
+      → Refuses (signed-x-check x ∷ []) (λ (r : CodedAngle). r .code) (λ k. angleWith k 0) (codedSigned x)
   pub eccentricity : (a : ℕ)
       → Refuses (a-check a ∷ []) (λ (r : CodedEccentricity). r .code) (λ k. eccentricityWith k 0) (codedEccentricity a)
   pub depth : (d : ℕ) → Refuses (depth-check d ∷ []) (λ (r : CodedDepth). r .code) (λ k. depthWith k 0) (codedDepth d)
-  pub cell : (g : Given)
-      → Refuses (checksOf g) (λ (r : CodedCell). r .code) (λ k. cellWith k (gridCell 0 0)) (codedCell g)
-  pub problem : (g : Given) (d : ℕ)
-      → Refuses (problemChecks g d) (λ (r : CodedProblem). r .code) (λ k. problemWith k (problemAt (gridCell 0 0) 0)) (codedProblem g d)
+  pub cell : (g : Given) → Refuses (checksOf g) (λ (r : CodedCell). r .code) noCell (codedCell g)
+  pub problem : (g : Given) (d : ℕ) → Refuses (problemChecks g d) (λ (r : CodedProblem). r .code) noProblem (codedProblem g d)
   pub estimate : (x : Float) → Refuses (estimate-check x ∷ []) (λ (r : CodedUnits). r .code) zerosWith (codedEstimate x)
   -- R6: every list of checks is in the order
-  pub in-order : (x a d n i : ℕ) (g : Given) (f : Float) (claims answers : List ℕ)
+  pub in-order : (x a d n i : ℕ) (z : ℤ) (g : Given) (f : Float) (claims answers : List ℕ)
       → T (all (inOrder order)
-      (sineChecks x d ∷ endChecks x g d ∷ enclosureChecks g d ∷ checksOf g ∷ problemChecks g d
-      ∷ claimChecks (record { given = g; estimate = f; n = n; depth = d }) ∷ batchChecks twenty (length claims) (length answers) ∷ recordChecks twenty claims i ∷ (x-check x ∷ []) ∷ (a-check a ∷ [])
+      (sineChecks x d ∷ endChecks z g d ∷ enclosureChecks g d ∷ checksOf g ∷ problemChecks g d
+      ∷ claimChecks (record { given = g; estimate = f; n = n; depth = d }) ∷ batchChecks twenty (length claims) (length answers) ∷ recordChecks twenty claims i ∷ (x-check x ∷ [])
+      ∷ (signed-x-check z ∷ []) ∷ (a-check a ∷ [])
       ∷ (depth-check d ∷ []) ∷ (estimate-check f ∷ []) ∷ []))
   -- R5: when each check fails
   pub conditions : Conditions

@@ -1,21 +1,21 @@
--- The second demand, over what the entries return: R14, R15, R19, R20, R29, R38 and what verdicts say. `LowerExact` and
--- `UpperExact` are R19's inequalities in exact fractions.
+-- The second demand, over what the entries return: R14, R15, R19, R20, R29, R38 and what verdicts say, for either sign of M.
+-- `EndExact` has R19's inequalities in exact fractions.
 use mathlib.Core.Path.{_≡_}
-use mathlib.Core.Bool.{true, false}
+use mathlib.Core.Bool.{Bool, true, false}
 use mathlib.Core.List.{List}
 use mathlib.Core.Logic.{_⊎_}
-use Prim.Native.Nat.{ℕ, _+_, _-_, _≤_, _<_}
-use lib.IntN.{pos, _+ℤ_, _*ℤ_}
+use Prim.Native.Nat.{ℕ, _≤_, _<_}
+use lib.IntN.{ℤ, pos, natAbs, _+ℤ_, _-ℤ_, _*ℤ_}
 use lib.Signed.{_≤ℤ_}
 use Rattle.grid.specs.Grid.{T-units, depths}
 use Rattle.grid.specs.Codes.{number, done}
 use Rattle.series.specs.Sine.{S9, S10, den9, den10}
 use Rattle.series.specs.Entry.{sineRule}
 use Rattle.series.specs.declared.SineBounds.{SineBounds}
-use Rattle.orbit.specs.Cell.{orbitAt}
-use Rattle.orbit.specs.Given.{Given, grid, cellOf, exactOf}
-use Rattle.ends.specs.Exact.{LowerExact, UpperExact, LowerSpare, UpperSpare}
-use Rattle.ends.specs.Entry.{flagged, lowerRule, upperRule}
+use Rattle.orbit.specs.Mirror.{mirror, mirrorEnd}
+use Rattle.orbit.specs.Given.{Given, grid, mirroredOf, cellOf, exactOf}
+use Rattle.ends.specs.Exact.{EndExact, ExactAt, EndSpare}
+use Rattle.ends.specs.Entry.{flagged, endRule, lowerRule, upperRule}
 use Rattle.enclosure.specs.Enclosure.{enclosureRule}
 use Rattle.enclosure.specs.declared.Enclosure.{Enclosure}
 use Rattle.proposal.specs.Certify.{lowAt, highAt, certifies, widths, Smallest}
@@ -35,40 +35,53 @@ pub record SineTrue (x : ℕ) (r : SineBounds) : Type 0 where
   pub low : (r .lo *ℤ pos den9) ≤ℤ S9 x
   pub high : S10 x ≤ℤ (r .hi *ℤ pos den10)
 
+-- one unit further in than an end, `true` for an upper one
+abbrev pub inward : Bool → ℤ → ℤ
+inward true X = X -ℤ pos 1
+inward false X = X +ℤ pos 1
+
+-- R29: an end that was returned
+pub record EndTrue (upper : Bool) (g : Given) (d : ℕ) (X : ℤ) : Type 0 where
+  -- R19: the exact inequality
+  pub exact : EndExact upper (exactOf g) X
+  -- R56: it is accepted
+  pub accepted : endRule upper X g d ≡ flagged true
+  -- one unit further in is not; there is no such unit at an upper end 0, or for a negative M at a lower end 0
+  pub next : ((mirrorEnd (mirroredOf g) upper ≡ true) × (X ≡ pos 0)) ⊎ (endRule upper (inward upper X) g d ≡ flagged false)
+
 -- of what `enclose` returns with code 0
 pub record EndsTrue (g : Given) (d : ℕ) (r : Enclosure) : Type 0 where
-  -- R19: the exact inequality at each
-  pub lower : LowerExact (exactOf g) (r .a)
-  pub upper : UpperExact (exactOf g) (r .b)
-  -- R29, R56: both are accepted, and the lower end does not lie above the upper
-  pub a-accepted : lowerRule (r .a) g d ≡ flagged true
-  pub b-accepted : upperRule (r .b) g d ≡ flagged true
-  pub order : r .a ≤ r .b
-  -- R29: one unit further in neither is; an upper end 0 has no such unit
-  pub a-inward : lowerRule (r .a + 1) g d ≡ flagged false
-  pub b-inward : (r .b ≡ 0) ⊎ (upperRule (r .b - 1) g d ≡ flagged false)
+  pub lower : EndTrue false g d (r .lower)
+  pub upper : EndTrue true g d (r .upper)
+  -- R29: the lower end does not lie above the upper
+  pub order : r .lower ≤ℤ r .upper
 
--- of what `propose` returns with code 0
+-- R59: an end of the problem that was posed, mirrored back, is accepted at depth 5
+abbrev pub AcceptedAt : Bool → Given → ℕ → Type 0
+AcceptedAt upper g X = endRule (mirrorEnd (mirroredOf g) upper) (mirror (mirroredOf g) (pos X)) g depths ≡ flagged true
+
+-- of what `propose` returns with code 0, by the size E of the angle
 pub record Certified (g : Given) (r : Proposal) : Type 0 where
-  -- R37: E is brought into 0 to T
-  pub within : r .angle ≤ T-units
+  -- R37: E is brought into 0 to T; R59: and the angle has M's sign
+  pub within : natAbs (r .angle) ≤ T-units
+  pub sign : r .angle ≡ mirror (mirroredOf g) (pos (natAbs (r .angle)))
   -- R19: the exact inequalities at the two ends that j names
-  pub lower : LowerExact (exactOf g) (lowAt (r .angle) (r .j))
-  pub upper : UpperExact (exactOf g) (highAt (r .angle) (r .j))
+  pub lower : ExactAt false g (lowAt (natAbs (r .angle)) (r .j))
+  pub upper : ExactAt true g (highAt (natAbs (r .angle)) (r .j))
   -- R38, R56: both accepted at depth 5
-  pub low-accepted : lowerRule (lowAt (r .angle) (r .j)) g depths ≡ flagged true
-  pub high-accepted : upperRule (highAt (r .angle) (r .j)) g depths ≡ flagged true
+  pub low-accepted : AcceptedAt false g (lowAt (natAbs (r .angle)) (r .j))
+  pub high-accepted : AcceptedAt true g (highAt (natAbs (r .angle)) (r .j))
   -- R38: the smallest j from 0 to 30, and the only one
-  pub smallest : Smallest (certifies (cellOf g) (r .angle)) widths (r .j)
-  pub only : (j : ℕ) → Smallest (certifies (cellOf g) (r .angle)) widths j → j ≡ r .j
+  pub smallest : Smallest (certifies (cellOf g) (natAbs (r .angle))) widths (r .j)
+  pub only : (j : ℕ) → Smallest (certifies (cellOf g) (natAbs (r .angle))) widths j → j ≡ r .j
 
 -- R43: of a confirmed claim the exact inequalities at p and at q
 abbrev pub ConfirmedTrue : Claim → Type 0
-ConfirmedTrue c = ConfirmedExact (exactOf (c .given)) (caseAt c .units) (c .n)
+ConfirmedTrue c = ConfirmedExact (c .given) (caseAt c .units) (c .n)
 
 -- R44: of a refuted one the exact inequality at f + N + 1 or at c - N - 1
 abbrev pub RefutedTrue : Claim → Type 0
-RefutedTrue c = let o = exactOf (c .given) in AboveExact o (caseAt c .units) (c .n) ⊎ BelowExact o (caseAt c .units) (c .n)
+RefutedTrue c = AboveExact (c .given) (caseAt c .units) (c .n) ⊎ BelowExact (c .given) (caseAt c .units) (c .n)
 
 pub record Demand2 : Type 0 where
   -- R14
@@ -77,11 +90,11 @@ pub record Demand2 : Type 0 where
   pub width : (x : ℕ) → sineRule x depths .code ≡ number done
       → sineRule x depths .hi ≤ℤ (sineRule x depths .lo +ℤ pos 32)
   -- R19
-  pub lower : (x : ℕ) (g : Given) (d : ℕ) → lowerRule x g d ≡ flagged true → LowerExact (exactOf g) x
-  pub upper : (x : ℕ) (g : Given) (d : ℕ) → upperRule x g d ≡ flagged true → UpperExact (exactOf g) x
+  pub lower : (x : ℤ) (g : Given) (d : ℕ) → lowerRule x g d ≡ flagged true → EndExact false (exactOf g) x
+  pub upper : (x : ℤ) (g : Given) (d : ℕ) → upperRule x g d ≡ flagged true → EndExact true (exactOf g) x
   -- R20, on the grid: not accepted at depth 5, so it has not 32 e units to spare
-  pub lower-spare : (x m a : ℕ) → lowerRule x (grid m a) depths ≡ flagged false → LowerSpare (orbitAt m a) x → ⊥
-  pub upper-spare : (x m a : ℕ) → upperRule x (grid m a) depths ≡ flagged false → UpperSpare (orbitAt m a) x → ⊥
+  pub lower-spare : (x m : ℤ) (a : ℕ) → lowerRule x (grid m a) depths ≡ flagged false → EndSpare false (exactOf (grid m a)) x → ⊥
+  pub upper-spare : (x m : ℤ) (a : ℕ) → upperRule x (grid m a) depths ≡ flagged false → EndSpare true (exactOf (grid m a)) x → ⊥
   -- R29: the returned ends
   pub enclose : (g : Given) (d : ℕ) → enclosureRule g d .code ≡ number done → EndsTrue g d (enclosureRule g d)
   -- R38

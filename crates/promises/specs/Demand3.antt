@@ -5,6 +5,8 @@ use mathlib.Core.List.{List}
 use mathlib.Core.Logic.{_⊎_}
 use Prim.Native.Nat.{ℕ, _*_, _≤_}
 use lib.Dec.{T}
+use lib.IntN.{ℤ}
+use lib.Signed.{_≤ℤ_}
 use Rattle.grid.specs.Grid.{T-units, depths}
 use Rattle.grid.specs.Codes.{number, done}
 use Rattle.orbit.specs.Cell.{CellIn}
@@ -24,8 +26,8 @@ use Rattle.claims.specs.Record.{reserved-check, claimAt, answerAt}
 
 -- an enclosure lies within another
 pub record Within (inner outer : Enclosure) : Type 0 where
-  pub lower : outer .a ≤ inner .a
-  pub upper : inner .b ≤ outer .b
+  pub lower : outer .lower ≤ℤ inner .lower
+  pub upper : inner .upper ≤ℤ outer .upper
 
 -- Confirmed or Refuted
 abbrev pub Settled : Verdict → Type 0
@@ -40,7 +42,7 @@ pub record Demand3 : Type 0 where
   -- R47
   pub kept : (c : Claim) (v : Verdict) (other : ℕ) → Settled v → c .depth ≤ other → other ≤ depths
       → judgeRule c ≡ verdict v → judgeRule (atDepth c other) ≡ verdict v
-  -- R46, of the tests: where the confirming ones hold at one depth, the refuting ones hold at none
+  -- R46, of the tests of a problem that was posed: where the confirming ones hold at one depth, the refuting ones hold at none
   pub tests-never-both : (c : Cell) (u : Units) (n d other : ℕ) → CellIn c → u .ceiling ≤ T-units → d ≤ depths → other ≤ depths
       → T (confirmed c d u n) → T (refuted c other u n) → ⊥
   -- R46, of the answers, whatever the two depths
@@ -53,7 +55,7 @@ pub record Demand3 : Type 0 where
   pub bytes-never-both : (claims others : List ℕ) (i k other : ℕ) → Again claims i others k other
       → answerAt twenty claims i ≡ verdictNumber Confirmed → answerAt twenty others k ≡ verdictNumber Refuted → ⊥
   -- R21
-  pub apart : (x y : ℕ) (g : Given) (d other : ℕ) → lowerRule x g d ≡ flagged true → upperRule y g other ≡ flagged true → x ≤ y
+  pub apart : (x y : ℤ) (g : Given) (d other : ℕ) → lowerRule x g d ≡ flagged true → upperRule y g other ≡ flagged true → x ≤ℤ y
   -- R30
   pub within : (g : Given) (d other : ℕ) → d ≤ other → enclosureRule g d .code ≡ number done → enclosureRule g other .code ≡ number done
       → Within (enclosureRule g other) (enclosureRule g d)

@@ -1,39 +1,49 @@
 -- What the rules promise further, beside the demands: of sums, ends, searches, tables, estimates and the program.
 use mathlib.Core.Path.{_≡_}
-use mathlib.Core.Bool.{Bool, true, false}
+use mathlib.Core.Bool.{Bool, true, false, not}
 use mathlib.Core.List.{List, []}
 use mathlib.Core.Logic.{_↔_}
 use Prim.Native.Nat.{ℕ, suc, _+_, _*_, _/_, _%_, _^_, _≤_, _<_}
 use lib.Dec.{T}
-use lib.IntN.{ℤ, pos, _*ℤ_}
+use lib.IntN.{ℤ, pos, negsuc, negℤ, natAbs, _*ℤ_}
 use lib.Signed.{_≤ℤ_}
-use lib.Ieee.{Float, binary64, ofBits, fits, mul}
+use lib.Ieee.{Float, binary64, ofBits, fits, mul, neg}
 use lib.Ieee.Positive.{den}
 use lib.ListN.{length}
 use Rattle.grid.specs.Grid.{one, H-units, T-units, depths}
-use Rattle.grid.specs.Codes.{number, done, no-upper-end}
+use Rattle.grid.specs.Codes.{Passed, number, done, no-upper-end}
 use Rattle.series.specs.Exact as exact
 use Rattle.series.specs.Factorial.{factorial}
 use Rattle.series.specs.Sine.{sine, Lo, Hi}
 use Rattle.orbit.specs.Cell.{orbitAt}
-use Rattle.orbit.specs.Given.{Given, cellOf, exactOf}
+use Rattle.orbit.specs.Mirror.{mirror, mirrorEnd}
+use Rattle.orbit.specs.Given.{Given, grid, mirroredOf, cellOf, problemChecks}
 use Rattle.orbit.specs.declared.Cell.{Cell}
 use Rattle.ends.specs.Ends.{belowAt, aboveAt, belowBy, aboveBy}
-use Rattle.ends.specs.Entry.{flagged, lowerRule, upperRule}
-use Rattle.ends.specs.Exact.{LowerExact, UpperExact}
+use Rattle.ends.specs.Entry.{flagged, endRule, lowerRule, upperRule}
+use Rattle.ends.specs.Exact.{ExactAt}
 use Rattle.enclosure.specs.Halving.{lastBracket}
 use Rattle.enclosure.specs.Enclosure.{enclosureRule}
+use Rattle.enclosure.specs.declared.Enclosure.{Enclosure}
 use Rattle.rotations.specs.Atan.{atan}
 use Rattle.rotations.specs.Table.{entries, table, entry, RoundedDown, G, Scaled}
 use Rattle.rotations.specs.declared.State.{State}
 use Rattle.proposal.specs.Certify.{lowAt, highAt, certifies, certificate, widths, Smallest}
-use Rattle.proposal.specs.Propose.{concluded}
+use Rattle.proposal.specs.Propose.{concluded, mirrorProposal, proposalRule}
 use Rattle.units.specs.Units.{product, unitsWith, codedEstimate}
 use Rattle.units.specs.Exact.{radian, Value, Rounded}
+use Rattle.judge.specs.Judge.{Claim, judgeRule}
 use Rattle.claims.specs.Form.{twenty}
 use Rattle.claims.specs.Record.{answerAt}
 use Rattle.claims.specs.Batch.{upTo}
 use Rattle.claim_file.specs.File.{most-bytes, output}
+
+-- R59: an enclosure with its ends negated and exchanged
+abbrev pub exchanged : Enclosure → Enclosure
+exchanged r = record { code = r .code; lower = negℤ (r .upper); upper = negℤ (r .lower) }
+
+abbrev pub claim : Given → Float → ℕ → ℕ → Claim
+claim g x n d = record { given = g; estimate = x; n = n; depth = d }
 
 pub record Sums : Type 0 where
   -- R8: 2^28 t_n is X^(2n+1) over (2^56)^n (2n+1)!
@@ -56,11 +66,12 @@ pub record Ends : Type 0 where
   pub upper-corners : (c : Cell) (X : ℕ) (b : ℤ)
       → T (aboveBy c X b) ↔ T (aboveAt (orbitAt (c .m .up) (c .a .down)) X b) × T (aboveAt (orbitAt (c .m .up) (c .a .up)) X b)
   -- R22
-  pub lower-deeper : (x : ℕ) (g : Given) (d other : ℕ) → d ≤ other → other ≤ depths → lowerRule x g d ≡ flagged true → lowerRule x g other ≡ flagged true
-  pub upper-deeper : (x : ℕ) (g : Given) (d other : ℕ) → d ≤ other → other ≤ depths → upperRule x g d ≡ flagged true → upperRule x g other ≡ flagged true
-  -- R23
-  pub zero-always : (g : Given) (d : ℕ) → lowerRule 0 g d .code ≡ number done → lowerRule 0 g d ≡ flagged true
-  pub T-never : (g : Given) (d : ℕ) → lowerRule T-units g d .code ≡ number done → lowerRule T-units g d ≡ flagged false
+  pub lower-deeper : (x : ℤ) (g : Given) (d other : ℕ) → d ≤ other → other ≤ depths → lowerRule x g d ≡ flagged true → lowerRule x g other ≡ flagged true
+  pub upper-deeper : (x : ℤ) (g : Given) (d other : ℕ) → d ≤ other → other ≤ depths → upperRule x g d ≡ flagged true → upperRule x g other ≡ flagged true
+  -- R23: as a lower end 0 is always accepted and T never, and for a negative M 0 and -T as an upper end
+  pub zero-always : (g : Given) (d : ℕ) → Passed (problemChecks g d) → endRule (mirrorEnd (mirroredOf g) false) (pos 0) g d ≡ flagged true
+  pub T-never : (g : Given) (d : ℕ) → Passed (problemChecks g d)
+      → endRule (mirrorEnd (mirroredOf g) false) (mirror (mirroredOf g) (pos T-units)) g d ≡ flagged false
 
 pub record Searches : Type 0 where
   -- R25: the last bracket of a search is closed, for any test and any top up to 2^30
@@ -78,9 +89,9 @@ pub record Proposals : Type 0 where
   -- R39: a smallest width exists for every E from 0 to T, and after any rotations its ends meet R19's inequalities
   pub exists : (c : Cell) (E : ℕ) → c .m .up ≤ H-units → E ≤ T-units → Smallest (certifies c E) widths (certificate c E)
   pub lower-true : (g : Given) (s : State) → cellOf g .m .up ≤ H-units
-      → let r = concluded (cellOf g) s in LowerExact (exactOf g) (lowAt (r .angle) (r .j))
+      → let r = concluded (cellOf g) s in ExactAt false g (lowAt (natAbs (r .angle)) (r .j))
   pub upper-true : (g : Given) (s : State) → cellOf g .m .up ≤ H-units
-      → let r = concluded (cellOf g) s in UpperExact (exactOf g) (highAt (r .angle) (r .j))
+      → let r = concluded (cellOf g) s in ExactAt true g (highAt (natAbs (r .angle)) (r .j))
 
 pub record Estimates : Type 0 where
   -- R41: binary64's product of an estimate in range with 2^28 is exact
@@ -90,6 +101,14 @@ pub record Estimates : Type 0 where
       → let u = codedEstimate x .units in Rounded (product x) (den x) (u .floor) (u .ceiling)
   -- R41: minus zero, by its bits
   pub minus-zero : codedEstimate (ofBits binary64 0x8000000000000000) ≡ unitsWith (number done) (record { floor = 0; ceiling = 0 })
+
+pub record Mirrored : Type 0 where
+  -- R59: the answers to -M are the mirror of those to M, whatever M, A, X, estimate, N and depth
+  pub ends : (upper : Bool) (x : ℤ) (m a d : ℕ)
+      → endRule upper x (grid (negsuc m) a) d ≡ endRule (not upper) (negℤ x) (grid (pos (suc m)) a) d
+  pub enclose : (m a d : ℕ) → enclosureRule (grid (negsuc m) a) d ≡ exchanged (enclosureRule (grid (pos (suc m)) a) d)
+  pub propose : (m a : ℕ) → proposalRule (grid (negsuc m) a) ≡ mirrorProposal true (proposalRule (grid (pos (suc m)) a))
+  pub judge : (m a : ℕ) (x : Float) (n d : ℕ) → judgeRule (claim (grid (negsuc m) a) x n d) ≡ judgeRule (claim (grid (pos (suc m)) a) (neg x) n d)
 
 pub record Program : Type 0 where
   -- R53: the answer bytes, one for each claim
@@ -105,4 +124,5 @@ pub record Further : Type 0 where
   pub searches : Searches
   pub proposals : Proposals
   pub estimates : Estimates
+  pub mirrored : Mirrored
   pub program : Program

@@ -1,19 +1,20 @@
 -- With code 0 an entry's answer is the one its rule gives, number for number, and so is each byte of a batch.
 use mathlib.Core.Path.{_≡_}
+use mathlib.Core.Bool.{true, false}
 use mathlib.Core.List.{List}
 use Prim.Native.Nat.{ℕ, _/_, _≤_, _<_}
+use lib.IntN.{ℤ, natAbs}
 use lib.Ieee.{Float}
 use lib.ListN.{length, getD}
 use Rattle.grid.specs.Codes.{number, done}
-use Rattle.grid.specs.Make.{angleWith, codedAngle, eccentricityWith, codedEccentricity, depthWith, codedDepth}
+use Rattle.grid.specs.Make.{angleWith, codedAngle, codedSigned, eccentricityWith, codedEccentricity, depthWith, codedDepth}
 use Rattle.series.specs.Sine.{Lo, Hi}
 use Rattle.series.specs.Entry.{sineRule}
 use Rattle.units.specs.Units.{floorAndCeiling, unitsWith, codedEstimate}
-use Rattle.orbit.specs.Given.{Given, cellOf, cellWith, codedCell, problemAt, problemWith, codedProblem}
-use Rattle.ends.specs.Ends.{lowerEnd, upperEnd}
-use Rattle.ends.specs.Entry.{flagged, lowerRule, upperRule}
+use Rattle.orbit.specs.Given.{Given, mirroredOf, cellOf, cellWith, codedCell, problemAt, problemWith, codedProblem}
+use Rattle.ends.specs.Entry.{flagged, endOf, lowerRule, upperRule}
 use Rattle.enclosure.specs.Enclosure.{enclosed, enclosureRule}
-use Rattle.proposal.specs.Propose.{proposed, proposalRule}
+use Rattle.proposal.specs.Propose.{proposed, mirrorProposal, proposalRule}
 use Rattle.judge.specs.Verdict.{verdictNumber}
 use Rattle.judge.specs.Judge.{Claim, caseAt, caseVerdict, verdict, judgeRule}
 use Rattle.claims.specs.Form.{twenty}
@@ -34,12 +35,12 @@ pub record Rules : Type 0 where
   -- R16
   pub sine : (x d : ℕ) → Gives (λ r. r .code) (sineRule x d) (record { code = number done; lo = Lo x d; hi = Hi x d })
   -- R24
-  pub lower-end : (x : ℕ) (g : Given) (d : ℕ) → Gives (λ r. r .code) (lowerRule x g d) (flagged (lowerEnd (cellOf g) d x))
-  pub upper-end : (x : ℕ) (g : Given) (d : ℕ) → Gives (λ r. r .code) (upperRule x g d) (flagged (upperEnd (cellOf g) d x))
+  pub lower-end : (x : ℤ) (g : Given) (d : ℕ) → Gives (λ r. r .code) (lowerRule x g d) (flagged (endOf false g d x))
+  pub upper-end : (x : ℤ) (g : Given) (d : ℕ) → Gives (λ r. r .code) (upperRule x g d) (flagged (endOf true g d x))
   -- R31
-  pub enclose : (g : Given) (d : ℕ) → Gives (λ r. r .code) (enclosureRule g d) (enclosed (cellOf g) d)
+  pub enclose : (g : Given) (d : ℕ) → Gives (λ r. r .code) (enclosureRule g d) (enclosed (mirroredOf g) (cellOf g) d)
   -- R40: the 50 rotations, E brought into 0 to T, and its certificate
-  pub propose : (g : Given) → Gives (λ r. r .code) (proposalRule g) (proposed (cellOf g))
+  pub propose : (g : Given) → Gives (λ r. r .code) (proposalRule g) (mirrorProposal (mirroredOf g) (proposed (cellOf g)))
   -- R48
   pub judge : (c : Claim) → Gives (λ r. r .code) (judgeRule c) (verdict (caseVerdict (caseAt c)))
   -- R51
@@ -58,8 +59,10 @@ pub record Rules : Type 0 where
   pub one-of-eight : (claims : List ℕ) → ((k : ℕ) → getD claims k 0 < 256) → (i : ℕ) → AnswerByte (answerAt twenty claims i)
   -- R4: what the checked constructors make; R41: f and c
   pub angle : (x : ℕ) → Gives (λ r. r .code) (codedAngle x) (angleWith (number done) x)
+  pub signed-angle : (x : ℤ) → Gives (λ r. r .code) (codedSigned x) (angleWith (number done) (natAbs x))
   pub eccentricity : (a : ℕ) → Gives (λ r. r .code) (codedEccentricity a) (eccentricityWith (number done) a)
   pub depth : (d : ℕ) → Gives (λ r. r .code) (codedDepth d) (depthWith (number done) d)
-  pub cell : (g : Given) → Gives (λ r. r .code) (codedCell g) (cellWith (number done) (cellOf g))
-  pub problem : (g : Given) (d : ℕ) → Gives (λ r. r .code) (codedProblem g d) (problemWith (number done) (problemAt (cellOf g) d))
+  pub cell : (g : Given) → Gives (λ r. r .code) (codedCell g) (cellWith (number done) (mirroredOf g) (cellOf g))
+  pub problem : (g : Given) (d : ℕ)
+      → Gives (λ r. r .code) (codedProblem g d) (problemWith (number done) (mirroredOf g) (problemAt (cellOf g) d))
   pub estimate : (x : Float) → Gives (λ r. r .code) (codedEstimate x) (unitsWith (number done) (floorAndCeiling x))

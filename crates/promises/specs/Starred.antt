@@ -3,7 +3,7 @@ use mathlib.Core.Path.{_≡_}
 use mathlib.Core.Bool.{Bool, true, false}
 use mathlib.Core.List.{List, [], _∷_, _++_}
 use Prim.Native.Nat.{ℕ, _+_, _≤_}
-use lib.IntN.{pos, negsuc}
+use lib.IntN.{ℤ, pos, negsuc, negℤ, natAbs}
 use lib.Ieee.{binary64, ofBits}
 use lib.ListN.{length}
 use Rattle.grid.specs.Grid.{one, H-units, T-units, depths}
@@ -16,6 +16,7 @@ use Rattle.ends.specs.Entry.{flagged, lowerRule, upperRule}
 use Rattle.enclosure.specs.Enclosure.{enclosureRule}
 use Rattle.units.specs.Units.{unitsWith, codedEstimate}
 use Rattle.judge.specs.Judge.{verdict, judgeRule}
+use Rattle.judge.specs.declared.Judged.{Judged}
 use Rattle.judge.specs.declared.Verdict.{Verdict}
 use Rattle.judge.specs.declared.Verdict.the-variants.{Confirmed, Refuted, Undecided}
 use Rattle.claims.specs.Form.{twenty}
@@ -29,18 +30,27 @@ pub data Row : Type 0 where
   sine-any : ℕ → ℕ → ℕ → Row
   -- M, A, X, depth: accepted or not
   lower upper : ℕ → ℕ → ℕ → ℕ → Bool → Row
-  -- M, A, depth: code, a and b
-  ends : ℕ → ℕ → ℕ → Code → ℕ → ℕ → Row
+  -- M, A, depth: code and the two ends
+  ends : ℤ → ℕ → ℕ → Code → ℤ → ℤ → Row
   -- the estimate's bits: f and c
   estimate : ℕ → ℕ → ℕ → Row
   -- M, A, X: the code of the end tests at depth 1
-  code : ℕ → ℕ → ℕ → Code → Row
+  code : ℤ → ℕ → ℤ → Code → Row
   -- the estimate's bits: its code
   estimate-code : ℕ → Code → Row
   -- M, A, the estimate's bits, N, depth: the verdict
-  judged : ℕ → ℕ → ℕ → ℕ → ℕ → Verdict → Row
+  judged : ℤ → ℕ → ℕ → ℕ → ℕ → Verdict → Row
+  -- M, A, the estimate's bits: the judge's code, with N = 0 at depth 5
+  judge-code : ℤ → ℕ → ℕ → Code → Row
   -- claims and the answers buffer: the count, and the buffer after
   batch : List ℕ → List ℕ → ℕ → List ℕ → Row
+
+-- a negative number
+abbrev pub minus : ℕ → ℤ
+minus n = negℤ (pos n)
+
+abbrev pub judge : ℤ → ℕ → ℕ → ℕ → ℕ → Judged
+judge M A bits N d = judgeRule (record { given = grid M A; estimate = ofBits binary64 bits; n = N; depth = d })
 
 -- code 0, Lo and Hi
 abbrev pub Bounds : ℕ → ℕ → ℕ → ℕ → Type 0
@@ -50,14 +60,14 @@ abbrev pub Holds : Row → Type 0
 Holds (sine X d lo hi) = Bounds X d lo hi
 Holds (sine-any X lo hi) = (d : ℕ) → 1 ≤ d → d ≤ depths → Bounds X d lo hi
 Holds (raw X d lo hi) = (rawLow series.sine X d ≡ pos lo) × (rawHigh series.sine X d ≡ pos hi)
-Holds (lower M A X d t) = lowerRule X (grid M A) d ≡ flagged t
-Holds (upper M A X d t) = upperRule X (grid M A) d ≡ flagged t
-Holds (ends M A d k a b) = enclosureRule (grid M A) d ≡ record { code = number k; a = a; b = b }
+Holds (lower M A X d t) = lowerRule (pos X) (grid (pos M) A) d ≡ flagged t
+Holds (upper M A X d t) = upperRule (pos X) (grid (pos M) A) d ≡ flagged t
+Holds (ends M A d k a b) = enclosureRule (grid M A) d ≡ record { code = number k; lower = a; upper = b }
 Holds (estimate bits f c) = codedEstimate (ofBits binary64 bits) ≡ unitsWith (number done) (record { floor = f; ceiling = c })
 Holds (code M A X k) = (lowerRule X (grid M A) 1 .code ≡ number k) × (upperRule X (grid M A) 1 .code ≡ number k)
 Holds (estimate-code bits k) = codedEstimate (ofBits binary64 bits) .code ≡ number k
-Holds (judged M A bits N d v) =
-    judgeRule (record { given = grid M A; estimate = ofBits binary64 bits; n = N; depth = d }) ≡ verdict v
+Holds (judged M A bits N d v) = judge M A bits N d ≡ verdict v
+Holds (judge-code M A bits k) = judge M A bits 0 depths .code ≡ number k
 Holds (batch claims answers n after) =
     (batchRule twenty (length claims) (length answers) ≡ record { code = number done; count = n })
     × (answersAfter twenty claims answers ≡ after)
@@ -87,8 +97,8 @@ starred =
     ∷ lower 44739242 one 268435456 1 false
     ∷ upper 42502279 one 268435456 1 true
     ∷ upper 42502280 one 268435456 1 false
-    ∷ ends 0 one 5 done 0 0
-    ∷ ends H-units one 1 no-upper-end 0 0
+    ∷ ends (pos 0) one 5 done (pos 0) (pos 0)
+    ∷ ends (pos H-units) one 1 no-upper-end (pos 0) (pos 0)
     -- the estimate 2^-1074
     ∷ estimate 1 0 1
     ∷ []
@@ -104,26 +114,57 @@ claim2 =
     0x00 ∷ 0x00 ∷ 0x00 ∷ 0x00 ∷ 0x00 ∷ 0x00 ∷ 0x00 ∷ 0x10 ∷ 0x00 ∷ 0x00 ∷ 0x00 ∷ 0x00 ∷ 0x00 ∷ 0x00 ∷ 0x60 ∷ 0x3f
     ∷ 0xe8 ∷ 0x03 ∷ 0x05 ∷ 0x00 ∷ []
 
+-- two records with a negative M: M = -1, A = 0 and the estimate of -1 unit; and the least M
+abbrev pub claim3 : List ℕ
+claim3 =
+    0xff ∷ 0xff ∷ 0xff ∷ 0xff ∷ 0x00 ∷ 0x00 ∷ 0x00 ∷ 0x00 ∷ 0x00 ∷ 0x00 ∷ 0x00 ∷ 0x00 ∷ 0x00 ∷ 0x00 ∷ 0x30 ∷ 0xbe
+    ∷ 0x00 ∷ 0x00 ∷ 0x01 ∷ 0x00 ∷ []
+
+abbrev pub claim4 : List ℕ
+claim4 =
+    0x00 ∷ 0x00 ∷ 0x00 ∷ 0x80 ∷ 0x00 ∷ 0x00 ∷ 0x00 ∷ 0x00 ∷ 0x00 ∷ 0x00 ∷ 0x00 ∷ 0x00 ∷ 0x00 ∷ 0x00 ∷ 0x30 ∷ 0xbe
+    ∷ 0x00 ∷ 0x00 ∷ 0x01 ∷ 0x00 ∷ []
+
 unfoldable pub others : List Row
 others =
     -- each limit, and one more
-    code H-units one T-units done
-    ∷ code (H-units + 1) one T-units bad-m
-    ∷ code 0 one T-units done
-    ∷ code 0 (one + 1) T-units bad-a
-    ∷ code 0 0 T-units done
-    ∷ code 0 0 (T-units + 1) bad-x
+    code (pos H-units) one (pos T-units) done
+    ∷ code (pos (H-units + 1)) one (pos T-units) bad-m
+    ∷ code (pos 0) one (pos T-units) done
+    ∷ code (pos 0) (one + 1) (pos T-units) bad-a
+    ∷ code (pos 0) 0 (pos T-units) done
+    ∷ code (pos 0) 0 (pos (T-units + 1)) bad-x
+    -- the same of a negative M, and the least number of 32 bits
+    ∷ code (minus H-units) one (minus T-units) done
+    ∷ code (minus (H-units + 1)) one (minus T-units) bad-m
+    ∷ code (minus 2147483648) one (pos 0) bad-m
+    ∷ code (minus 1) 0 (minus T-units) done
+    ∷ code (minus 1) 0 (minus (T-units + 1)) bad-x
+    -- an angle on the other side of 0 than M, and 0 itself
+    ∷ code (minus 1) 0 (pos 1) bad-x
+    ∷ code (minus 1) 0 (pos 0) done
+    ∷ code (pos 0) 0 (minus 1) bad-x
+    -- the mirror exchanges the ends of M = 1, which are 756153 and 952744
+    ∷ ends (minus 1) one 1 done (minus 952744) (minus 756153)
     -- T units in radians, and the next double above them
     ∷ estimate-code 0x400921fb74000000 done
     ∷ estimate-code 0x400921fb74000001 bad-estimate
     -- M = 0, e = 1: the estimates 2^-9, whose residual is small (R58), and 2^-8; and 0 with two tolerances, of which the
     -- wider loses the verdict (R47)
-    ∷ judged 0 one 0x3f60000000000000 1000 5 Undecided
-    ∷ judged 0 one 0x3f70000000000000 1000 5 Refuted
-    ∷ judged 0 one 0 0 5 Confirmed
-    ∷ judged 0 one 0 1 5 Undecided
+    ∷ judged (pos 0) one 0x3f60000000000000 1000 5 Undecided
+    ∷ judged (pos 0) one 0x3f70000000000000 1000 5 Refuted
+    ∷ judged (pos 0) one 0 0 5 Confirmed
+    ∷ judged (pos 0) one 0 1 5 Undecided
+    -- minus zero is 0 for every M; the least double of either sign, 2^-1074 and its negative
+    ∷ judged (pos 0) one 0x8000000000000000 0 5 Confirmed
+    ∷ judge-code (minus 1) one 0x8000000000000000 done
+    ∷ judge-code (minus 1) one 0 done
+    ∷ judge-code (pos 0) one 0x8000000000000001 bad-estimate
+    ∷ judge-code (minus 1) one 0x8000000000000001 done
+    ∷ judge-code (minus 1) one 1 bad-estimate
     -- the bytes as they stand in the buffer
     ∷ batch (claim1 ++ claim2) (0x00 ∷ 0x00 ∷ []) 2 (0x10 ∷ 0x12 ∷ [])
+    ∷ batch (claim3 ++ claim4) (0x00 ∷ 0x00 ∷ []) 2 (0x10 ∷ 0x01 ∷ [])
     ∷ []
 
 pub record Starred : Type 0 where
@@ -133,4 +174,5 @@ pub record Starred : Type 0 where
   -- R13: at T both bounds lie below zero
   pub below-zero : sineRule T-units depths ≡ record { code = number done; lo = negsuc 68; hi = negsuc 56 }
   -- R32
-  pub circle : (m d : ℕ) → m ≤ H-units → 1 ≤ d → d ≤ depths → enclosureRule (grid m 0) d ≡ record { code = number done; a = m; b = m }
+  pub circle : (m : ℤ) (d : ℕ) → natAbs m ≤ H-units → 1 ≤ d → d ≤ depths
+      → enclosureRule (grid m 0) d ≡ record { code = number done; lower = m; upper = m }

@@ -1,21 +1,26 @@
 -- Any two results that a contract allows for one input are equal, R55. What a contract allows is written here as the contract
 -- has it; of the batch and the program's function, what is returned and the answers buffer that is left, together.
 use mathlib.Core.Path.{_≡_}
-use mathlib.Core.Bool.{cond}
+use mathlib.Core.Bool.{Bool, cond}
 use mathlib.Core.List.{List}
 use Prim.Native.Nat.{ℕ, _+_, _-_, min}
-use lib.IntN.{ℤ}
+use lib.IntN.{ℤ, natAbs}
 use lib.Ieee.{Float}
 use lib.Dec.{ltb}
 use lib.ListN.{length}
+use Rattle.whole.specs.Sign as sign
+use Rattle.whole.specs.Sign.{signedBy}
+use Rattle.little.specs.LittleEndian.{twosComplement}
 use Rattle.grid.specs.Grid.{T-units}
 use Rattle.grid.specs.Codes as codes
-use Rattle.grid.specs.Make.{codedAngle, codedEccentricity, codedDepth}
+use Rattle.grid.specs.Make.{codedAngle, codedSigned, codedEccentricity, codedDepth}
 use Rattle.grid.specs.declared.CodedAngle.{CodedAngle}
 use Rattle.grid.specs.declared.CodedEccentricity.{CodedEccentricity}
 use Rattle.grid.specs.declared.CodedDepth.{CodedDepth}
 use Rattle.series.specs.Entry.{sineRule}
 use Rattle.series.specs.declared.SineBounds.{SineBounds}
+use Rattle.orbit.specs.Mirror as mirrors
+use Rattle.orbit.specs.Mirror.{mirrorEnd}
 use Rattle.orbit.specs.Cell.{gridCell}
 use Rattle.orbit.specs.declared.Cell.{Cell}
 use Rattle.orbit.specs.Given.{Given, codedCell, codedProblem}
@@ -28,7 +33,7 @@ use Rattle.enclosure.specs.declared.Enclosure.{Enclosure}
 use Rattle.rotations.specs.Rotate.{brought}
 use Rattle.proposal.specs.Propose.{proposalRule}
 use Rattle.proposal.specs.declared.Proposal.{Proposal}
-use Rattle.units.specs.Units.{codedUnits}
+use Rattle.units.specs.Units.{mirrorDouble, codedUnits}
 use Rattle.units.specs.declared.CodedUnits.{CodedUnits}
 use Rattle.judge.specs.Verdict.{verdictNumber}
 use Rattle.judge.specs.Judge.{Claim, judgeRule}
@@ -58,20 +63,22 @@ pub record FileAllows (input before : List ℕ) (l : Left ℕ) : Type 0 where
 
 pub record Unique : Type 0 where
   pub sine : (x depth : ℕ) → OneResult (λ (r : SineBounds). r ≡ sineRule x depth)
-  pub lower-end : (x : ℕ) (g : Given) (depth : ℕ) → OneResult (λ (r : End). r ≡ lowerRule x g depth)
-  pub upper-end : (x : ℕ) (g : Given) (depth : ℕ) → OneResult (λ (r : End). r ≡ upperRule x g depth)
+  pub lower-end : (x : ℤ) (g : Given) (depth : ℕ) → OneResult (λ (r : End). r ≡ lowerRule x g depth)
+  pub upper-end : (x : ℤ) (g : Given) (depth : ℕ) → OneResult (λ (r : End). r ≡ upperRule x g depth)
   pub enclose : (g : Given) (depth : ℕ) → OneResult (λ (r : Enclosure). r ≡ enclosureRule g depth)
   pub propose : (g : Given) → OneResult (λ (r : Proposal). r ≡ proposalRule g)
   pub judge : (claim : Claim) → OneResult (λ (r : Judged). r ≡ judgeRule claim)
   pub judge-claims : (claims before : List ℕ) → OneResult (BatchAllows claims before)
   -- the checked constructors, and a double in units
   pub angle : (units : ℕ) → OneResult (λ (r : CodedAngle). r ≡ codedAngle units)
+  pub signed-angle : (units : ℤ) → OneResult (λ (r : CodedAngle). r ≡ codedSigned units)
   pub eccentricity : (units : ℕ) → OneResult (λ (r : CodedEccentricity). r ≡ codedEccentricity units)
   pub depth : (pairs : ℕ) → OneResult (λ (r : CodedDepth). r ≡ codedDepth pairs)
   pub cell : (g : Given) → OneResult (λ (r : CodedCell). r ≡ codedCell g)
   pub problem : (g : Given) (depth : ℕ) → OneResult (λ (r : CodedProblem). r ≡ codedProblem g depth)
   pub in-units : (value : Float) (limit code : ℕ) → OneResult (λ (r : CodedUnits). r ≡ codedUnits value limit code)
-  -- the functions that crates share: the program's, the codes', a cell of the grid, the clamps into 0 to T, a verdict's number
+  -- the functions that crates share: the program's, the codes', a cell of the grid, the clamps into 0 to T, a verdict's number,
+  -- signs and the mirror
   pub answer-file : (input before : List ℕ) → OneResult (FileAllows input before)
   pub limited : (n limit code : ℕ) → OneResult (λ (r : ℕ). r ≡ cond (ltb limit n) code (codes.number codes.done))
   pub earlier : (code next : ℕ) → OneResult (λ (r : ℕ). r ≡ codes.earlier code next)
@@ -80,3 +87,10 @@ pub record Unique : Type 0 where
   pub step-up : (x n : ℕ) → OneResult (λ (r : ℕ). r ≡ min (x + n) T-units)
   pub bring : (angle : ℤ) → OneResult (λ (r : ℕ). r ≡ brought angle)
   pub number-of : (v : Verdict) → OneResult (λ (r : ℕ). r ≡ verdictNumber v)
+  pub signed : (z : ℤ) (plus : Bool) → OneResult (λ (r : ℤ). r ≡ signedBy plus z)
+  pub negative : (z : ℤ) → OneResult (λ (r : Bool). r ≡ sign.negative z)
+  pub size : (z : ℤ) → OneResult (λ (r : ℕ). r ≡ natAbs z)
+  pub mirror : (z : ℤ) (mirrored : Bool) → OneResult (λ (r : ℤ). r ≡ mirrors.mirror mirrored z)
+  pub mirror-end : (upper mirrored : Bool) → OneResult (λ (r : Bool). r ≡ mirrorEnd mirrored upper)
+  pub mirror-double : (x : Float) (mirrored : Bool) → OneResult (λ (r : Float). r ≡ mirrorDouble mirrored x)
+  pub signed-word : (word : ℕ) → OneResult (λ (r : ℤ). r ≡ twosComplement word)

@@ -1,0 +1,27 @@
+/*
+** unmirrored.h: the entries of plain.h that take M, for M not below 0.
+**
+** M and X are read without a sign, and one that is far too great is refused
+** as any other.
+*/
+#ifndef UNMIRRORED_H
+#define UNMIRRORED_H
+
+#include "plain.h"
+
+struct stripeawn_end unmirrored_lower_end(uint32_t x, uint32_t m, uint32_t a,
+                                          uint32_t depth);
+
+struct stripeawn_end unmirrored_upper_end(uint32_t x, uint32_t m, uint32_t a,
+                                          uint32_t depth);
+
+struct stripeawn_enclosure unmirrored_enclose(uint32_t m, uint32_t a,
+                                              uint32_t depth);
+
+struct stripeawn_proposal unmirrored_propose(uint32_t m, uint32_t a);
+
+struct stripeawn_verdict unmirrored_judge(uint32_t m, uint32_t a,
+                                          double estimate, uint32_t n,
+                                          uint32_t depth);
+
+#endif
