@@ -12,7 +12,7 @@ use Rattle.whole.proofs.Parts.{shift, is-pos, is-neg, is-add, is-minus}
 use Rattle.whole.proofs.Order.{le-parts, one-number}
 use Rattle.whole.proofs.CodeRoom.{size-sign}
 use Rattle.grid.specs.Grid.{T-units}
-use Rattle.grid.specs.Codes.{Check, signed-x-check}
+use Rattle.grid.specs.Codes.{signed-x-check}
 use Rattle.grid.proofs.Fits.{signed-fits}
 use Rattle.orbit.specs.Mirror.{mirror, mirrorEnd}
 use Rattle.enclosure.specs.Enclosure.{mirrorEnds}

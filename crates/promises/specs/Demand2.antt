@@ -46,7 +46,7 @@ pub record EndTrue (upper : Bool) (g : Given) (d : ℕ) (X : ℤ) : Type 0 where
   pub exact : EndExact upper (exactOf g) X
   -- R56: it is accepted
   pub accepted : endRule upper X g d ≡ flagged true
-  -- one unit further in is not; there is no such unit at an upper end 0, or for a negative M at a lower end 0
+  -- one unit further in is not; an upper end 0 has no such unit, or for a negative M a lower end 0, as it would oppose M
   pub next : ((mirrorEnd (mirroredOf g) upper ≡ true) × (X ≡ pos 0)) ⊎ (endRule upper (inward upper X) g d ≡ flagged false)
 
 -- of what `enclose` returns with code 0

@@ -1,5 +1,5 @@
 -- `ends::end_test` meets its contract, for either end: the problem's checks, then the angle's, mirrored with it. Assumes nothing.
-use mathlib.Core.Path.{_≡_, refl, ap, ap₂, _∙_}
+use mathlib.Core.Path.{_≡_, refl, ap, _∙_}
 use mathlib.Core.Bool.{not}
 use mathlib.Core.List.{[], _∷_}
 use borrow.Author.Needs.{needs}
@@ -8,16 +8,13 @@ use mir.Facts.{toZ-ofZ}
 use Rattle.whole.proofs.CodeRoom.{roomy-32, widened, roomy-fits, roomy-sign, size-sign, read}
 use Rattle.grid.specs.Codes.{signed-x-check}
 use Rattle.grid.specs.Make.{angleWith}
-use Rattle.grid.specs.declared.CodedAngle.{CodedAngle}
 use Rattle.grid.proofs.FirstCode.{split}
 use Rattle.grid.proofs.Refuses.{Says, then}
 use Rattle.grid.proofs.Made.{signed-angles}
 use Rattle.grid.proofs.Fits.{signed-fits}
-use Rattle.orbit.specs.Mirror.{mirror, mirrorEnd}
+use Rattle.orbit.specs.Mirror.{mirror}
 use Rattle.orbit.specs.Given.{Given, grid, mirroredOf, cellOf, problemChecks, problemAt, problemWith}
-use Rattle.orbit.specs.declared.CodedProblem.{CodedProblem}
 use Rattle.orbit.proofs.Posed.{problems, problem-in}
-use Rattle.ends.specs.Ends.{endAt}
 use Rattle.ends.specs.Entry.{endChecks, flagged}
 use Rattle.ends.proofs.Answered.{ends}
 use Rattle.ends.proofs.end_test.Statement.{statement}

@@ -1,18 +1,14 @@
 -- `orbit::Cell::new` meets its contract: M's check, by its size, then A's. Assumes nothing.
 use borrow.Author.Needs.{needs}
-use mathlib.Core.Path.{_≡_, ap, ap₂, _∙_}
+use mathlib.Core.Path.{_≡_, ap, _∙_}
 use lib.IntN.{natAbs}
 use mir.Facts.{toZ-ofZ}
-use Rattle.whole.specs.Sign.{negative}
 use Rattle.grid.specs.Grid.{H-units}
 use Rattle.grid.specs.Codes.{bad-m}
 use Rattle.grid.proofs.FirstCode.{CodeOf}
 use Rattle.grid.proofs.Refuses.{limits, then}
 use Rattle.grid.proofs.Made.{eccentricities}
-use Rattle.orbit.specs.Cell.{gridCell}
-use Rattle.orbit.specs.Given.{Given, grid, checksOf, cellWith, noCell}
-use Rattle.orbit.specs.declared.Cell.{Cell}
-use Rattle.orbit.specs.declared.CodedCell.{CodedCell}
+use Rattle.orbit.specs.Given.{Given, grid, checksOf}
 use Rattle.orbit.proofs.Posed.{cells}
 use Rattle.orbit.proofs.Cell.new.Statement.{statement}
 use Rattle.orbit.proofs.Cell.new.Tie as tie

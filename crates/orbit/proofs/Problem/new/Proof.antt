@@ -1,11 +1,11 @@
 -- `orbit::Problem::new` meets its contract: the cell's checks, then the depth's. Assumes nothing.
 use borrow.Author.Needs.{needs}
-use mathlib.Core.Path.{_≡_, ap, _∙_}
+use mathlib.Core.Path.{_≡_}
 use mir.Facts.{toZ-ofZ}
 use Rattle.grid.specs.Make.{depthWith}
 use Rattle.grid.proofs.Refuses.{Says, then}
 use Rattle.grid.proofs.Made.{depths-made}
-use Rattle.orbit.specs.Given.{Given, grid, mirroredOf, cellOf, codedCell, cellWith, problemChecks}
+use Rattle.orbit.specs.Given.{Given, grid, mirroredOf, cellOf, cellWith, problemChecks}
 use Rattle.orbit.proofs.Posed.{cells, problems}
 use Rattle.orbit.proofs.Problem.new.Statement.{statement}
 use Rattle.orbit.proofs.Problem.new.Tie as tie
