@@ -72,19 +72,19 @@ fn between(a: u32, b: u32, mirrored: bool) -> Enclosure
     requires { ⌜ EndsIn a b ⌝ }
     ensures { λ r. ⌜ r ≡ mirrorEnds mirrored a b ⌝ }
 {
-    let lower = a as i32;
-    let upper = b as i32;
+    let near = orbit::mirror_angle(a as u64, mirrored);
+    let far = orbit::mirror_angle(b as u64, mirrored);
     if mirrored {
         Enclosure {
             code: codes::DONE,
-            lower: 0 - upper,
-            upper: 0 - lower,
+            lower: far,
+            upper: near,
         }
     } else {
         Enclosure {
             code: codes::DONE,
-            lower,
-            upper,
+            lower: near,
+            upper: far,
         }
     }
 }

@@ -1,6 +1,9 @@
 // A problem, posed once: M and the eccentricity as they are known, and the depth at which it is asked.
 ghost use mathlib.Core.Path.{_≡_};
+ghost use Prim.Native.Nat.{_≤_};
+ghost use lib.IntN.{pos};
 ghost use Rattle.whole.specs.Room.{Roomy};
+ghost use Rattle.grid.specs.Grid.{T-units};
 ghost use Rattle.orbit.specs.Mirror.{mirror, mirrorEnd};
 ghost use Rattle.orbit.specs.Cell.{gridCell};
 ghost use Rattle.orbit.specs.Given.{grid, codedCell, codedProblem};
@@ -15,6 +18,14 @@ pub fn mirror(z: i64, mirrored: bool) -> i64
     ensures { λ r. ⌜ r ≡ mirror mirrored z ⌝ }
 {
     whole::signed(z, !mirrored)
+}
+
+// R59: an angle, or on the mirror its negative, as C takes it.
+pub fn mirror_angle(units: u64, mirrored: bool) -> i32
+    requires { ⌜ units ≤ T-units ⌝ }
+    ensures { λ r. ⌜ r ≡ mirror mirrored (pos units) ⌝ }
+{
+    mirror(units as i64, mirrored) as i32
 }
 
 // R59: which end it is, true for an upper one: on the mirror the ends change places.

@@ -41,6 +41,7 @@ unique =
       negative = λ z. one _;
       size = λ z. one _;
       mirror = λ z mirrored. one _;
+      mirror-angle = λ units mirrored. one _;
       mirror-end = λ upper mirrored. one _;
       mirror-double = λ x mirrored. one _;
       signed-word = λ word. one _;

@@ -4,7 +4,7 @@ use mathlib.Core.Path.{_≡_}
 use mathlib.Core.Bool.{Bool, cond}
 use mathlib.Core.List.{List}
 use Prim.Native.Nat.{ℕ, _+_, _-_, min}
-use lib.IntN.{ℤ, natAbs}
+use lib.IntN.{ℤ, pos, natAbs}
 use lib.Ieee.{Float}
 use lib.Dec.{ltb}
 use lib.ListN.{length}
@@ -91,6 +91,7 @@ pub record Unique : Type 0 where
   pub negative : (z : ℤ) → OneResult (λ (r : Bool). r ≡ sign.negative z)
   pub size : (z : ℤ) → OneResult (λ (r : ℕ). r ≡ natAbs z)
   pub mirror : (z : ℤ) (mirrored : Bool) → OneResult (λ (r : ℤ). r ≡ mirrors.mirror mirrored z)
+  pub mirror-angle : (units : ℕ) (mirrored : Bool) → OneResult (λ (r : ℤ). r ≡ mirrors.mirror mirrored (pos units))
   pub mirror-end : (upper mirrored : Bool) → OneResult (λ (r : Bool). r ≡ mirrorEnd mirrored upper)
   pub mirror-double : (x : Float) (mirrored : Bool) → OneResult (λ (r : Float). r ≡ mirrorDouble mirrored x)
   pub signed-word : (word : ℕ) → OneResult (λ (r : ℤ). r ≡ twosComplement word)

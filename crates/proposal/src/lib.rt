@@ -75,7 +75,7 @@ fn conclude(cell: Cell, s: State, mirrored: bool) -> Proposal
     let j = certify(cell, angle);
     Proposal {
         code: codes::DONE,
-        angle: orbit::mirror(angle as i64, mirrored) as i32,
+        angle: orbit::mirror_angle(angle, mirrored),
         y: orbit::mirror(s.sine, mirrored),
         x: s.cosine,
         j,

@@ -5,7 +5,7 @@ use mathlib.Core.List.{[], _∷_}
 use borrow.Author.Needs.{needs}
 use lib.IntN.{natAbs}
 use mir.Facts.{toZ-ofZ}
-use Rattle.whole.proofs.CodeRoom.{roomy-32, widened, roomy-fits, roomy-sign, size-sign, read}
+use Rattle.whole.proofs.CodeRoom.{roomy-32, widened, roomy-fits, size-sign}
 use Rattle.grid.specs.Codes.{signed-x-check}
 use Rattle.grid.specs.Make.{angleWith}
 use Rattle.grid.proofs.FirstCode.{split}
@@ -46,7 +46,7 @@ made c known =
     let x = n .before .fits .x in
     let e = rw (widened x, known) at (c .before .mirror .ensures) in
     signed-angles (mirror (mirroredOf (given n)) (n .before .args .x)) .says _
-    (rw (e, read (roomy-sign (not (mirroredOf (given n))) (roomy-32 x))) at (c .of-signed .ensures))
+    (rw (toZ-ofZ (record { sfits = c .before .mirror .ok }), e) at (c .of-signed .ensures))
 
 said : (c : tie.After-earlier)
     → let n = c .before .before .before in
