@@ -1,15 +1,17 @@
 // The enclosure of a problem's eccentric anomaly between two accepted ends, found by halving.
 ghost use mathlib.Core.Path.{_≡_};
 ghost use mathlib.Core.List.{[], _∷_};
+ghost use Prim.Native.Nat.{ℕ};
 ghost use Rattle.grid.specs.Grid.{T-units};
 ghost use Rattle.grid.specs.Codes.{checked};
-ghost use Rattle.orbit.specs.Given.{grid, ProblemIn};
+ghost use Rattle.orbit.specs.Given.{Given, grid, doubles, codedProblem, ProblemIn, PosedIn};
 ghost use Rattle.ends.specs.Corner.{Asked};
 ghost use Rattle.enclosure.specs.Halving.{lastBracket};
 ghost use Rattle.enclosure.specs.Enclosure.{T-check, refusal, mirrorEnds, enclosed, enclosureRule};
 ghost use Rattle.enclosure.specs.Moves.{movesP, EndsIn};
 use grid::Angle;
 use grid::codes;
+use orbit::CodedProblem;
 use orbit::Problem;
 
 // A code, and with code 0 the two ends, in units.
@@ -105,14 +107,28 @@ fn enclose_problem(problem: Problem, mirrored: bool) -> Enclosure
     between(lower.p, upper.q, mirrored)
 }
 
-// The enclosure of M and A at a depth, or the code of what is out of limits: 1, 2, 3, then 6.
-pub fn enclose(m: i32, a: u32, depth: u32) -> Enclosure
-    ensures { λ r. ⌜ r ≡ enclosureRule (grid m a) depth ⌝ }
+// The enclosure of whatever was given, or its code.
+fn enclose_posed(posed: CodedProblem) -> Enclosure
+    requires { ⌜ PosedIn posed ⌝ }
+    ensures { λ r. ⌜ (g : Given) (d : ℕ) → posed ≡ codedProblem g d → r ≡ enclosureRule g d ⌝ }
 {
-    let posed = Problem::new(m, a, depth);
     if posed.code != codes::DONE {
         return refused(posed.code);
     }
     let problem = posed.problem;
     enclose_problem(problem, posed.mirrored)
+}
+
+// The enclosure of M and A at a depth, or the code of what is out of limits: 1, 2, 3, then 6.
+pub fn enclose(m: i32, a: u32, depth: u32) -> Enclosure
+    ensures { λ r. ⌜ r ≡ enclosureRule (grid m a) depth ⌝ }
+{
+    enclose_posed(Problem::new(m, a, depth))
+}
+
+// R60: the same of M in radians and e as doubles.
+pub fn enclose_double(m: f64, e: f64, depth: u32) -> Enclosure
+    ensures { λ r. ⌜ r ≡ enclosureRule (doubles m e) depth ⌝ }
+{
+    enclose_posed(Problem::of_doubles(m, e, depth))
 }

@@ -1,14 +1,15 @@
 // The two end tests: whether an angle is accepted as an end below or above the root.
 ghost use mathlib.Core.Path.{_≡_};
-ghost use Prim.Native.Nat.{_+_, _*_};
+ghost use Prim.Native.Nat.{ℕ, _+_, _*_};
 ghost use Rattle.orbit.specs.Cell.{orbitAt};
-ghost use Rattle.orbit.specs.Given.{grid};
+ghost use Rattle.orbit.specs.Given.{Given, grid, doubles, codedProblem, PosedIn};
 ghost use Rattle.ends.specs.Ends.{endAt, lowerEnd, upperEnd};
 ghost use Rattle.ends.specs.Entry.{endRule, lowerRule, upperRule, flagged};
 ghost use Rattle.ends.specs.Corner.{Asked, Settling, CornerIn, BoundIn, WalkIn, oneMean, cornerOf, testBy, atDepth};
 use grid::Angle;
 use grid::Depth;
 use grid::codes;
+use orbit::CodedProblem;
 use orbit::Problem;
 use orbit::Span;
 use series::Walk;
@@ -171,11 +172,12 @@ fn flag(accepted: bool) -> End
     }
 }
 
-// The end test of plain numbers, of an upper end or of a lower one. On the mirror x is mirrored, and the other end is tested.
-fn end_test(x: i32, m: i32, a: u32, depth: u32, upper: bool) -> End
-    ensures { λ r. ⌜ r ≡ endRule upper x (grid m a) depth ⌝ }
+// The end test of whatever was given, of an upper end or of a lower one. On the mirror x is mirrored, and the other end is
+// tested.
+fn end_test(x: i32, posed: CodedProblem, upper: bool) -> End
+    requires { ⌜ PosedIn posed ⌝ }
+    ensures { λ r. ⌜ (g : Given) (d : ℕ) → posed ≡ codedProblem g d → r ≡ endRule upper x g d ⌝ }
 {
-    let posed = Problem::new(m, a, depth);
     let mirrored = posed.mirrored;
     let made = Angle::of_signed(orbit::mirror(x as i64, mirrored));
     let code = codes::earlier(posed.code, made.code);
@@ -191,12 +193,25 @@ fn end_test(x: i32, m: i32, a: u32, depth: u32, upper: bool) -> End
 pub fn lower_end(x: i32, m: i32, a: u32, depth: u32) -> End
     ensures { λ r. ⌜ r ≡ lowerRule x (grid m a) depth ⌝ }
 {
-    end_test(x, m, a, depth, false)
+    end_test(x, Problem::new(m, a, depth), false)
 }
 
 // Whether x is an accepted upper end, or the code of what is out of limits: 1, 2, 3, then 10.
 pub fn upper_end(x: i32, m: i32, a: u32, depth: u32) -> End
     ensures { λ r. ⌜ r ≡ upperRule x (grid m a) depth ⌝ }
 {
-    end_test(x, m, a, depth, true)
+    end_test(x, Problem::new(m, a, depth), true)
+}
+
+// R60: the same of M in radians and e as doubles.
+pub fn lower_end_double(x: i32, m: f64, e: f64, depth: u32) -> End
+    ensures { λ r. ⌜ r ≡ lowerRule x (doubles m e) depth ⌝ }
+{
+    end_test(x, Problem::of_doubles(m, e, depth), false)
+}
+
+pub fn upper_end_double(x: i32, m: f64, e: f64, depth: u32) -> End
+    ensures { λ r. ⌜ r ≡ upperRule x (doubles m e) depth ⌝ }
+{
+    end_test(x, Problem::of_doubles(m, e, depth), true)
 }

@@ -1,11 +1,13 @@
 // The judge of a claim: does Kepler's equation have its root within N units of an estimate?
 ghost use mathlib.Core.Path.{_≡_};
-ghost use Rattle.orbit.specs.Given.{grid};
+ghost use Prim.Native.Nat.{ℕ};
+ghost use Rattle.orbit.specs.Given.{Given, grid, doubles, codedProblem, PosedIn};
 ghost use Rattle.judge.specs.Verdict.{confirmed, lowerAbove, upperBelow, verdictNumber};
 ghost use Rattle.judge.specs.Judge.{caseVerdict, judgeRule};
 ghost use Rattle.judge.specs.Limits.{CaseIn};
 use grid::Angle;
 use grid::codes;
+use orbit::CodedProblem;
 use orbit::Problem;
 use units::Units;
 
@@ -111,11 +113,11 @@ fn decide(k: Case) -> Verdict
     Verdict::Undecided
 }
 
-// The verdict on a claim, or the code of what is out of limits: 1, 2, 3, 4, then 5.
-pub fn judge(m: i32, a: u32, estimate: f64, n: u32, depth: u32) -> Judged
-    ensures { λ r. ⌜ r ≡ judgeRule (record { given = grid m a; estimate = estimate; n = n; depth = depth }) ⌝ }
+// The verdict on a claim about whatever was given, or its code. On the mirror the estimate is mirrored.
+fn judge_posed(posed: CodedProblem, estimate: f64, n: u32) -> Judged
+    requires { ⌜ PosedIn posed ⌝ }
+    ensures { λ r. ⌜ (g : Given) (d : ℕ) → posed ≡ codedProblem g d → r ≡ judgeRule (record { given = g; estimate = estimate; n = n; depth = d }) ⌝ }
 {
-    let posed = Problem::new(m, a, depth);
     let value = units::mirror(estimate, posed.mirrored);
     let made = units::in_units(value, Angle::T, codes::BAD_ESTIMATE);
     let n_code = codes::limited(n, N_LIMIT, codes::BAD_N);
@@ -134,4 +136,18 @@ pub fn judge(m: i32, a: u32, estimate: f64, n: u32, depth: u32) -> Judged
         code,
         verdict: number_of(decide(k)),
     }
+}
+
+// The verdict on a claim, or the code of what is out of limits: 1, 2, 3, 4, then 5.
+pub fn judge(m: i32, a: u32, estimate: f64, n: u32, depth: u32) -> Judged
+    ensures { λ r. ⌜ r ≡ judgeRule (record { given = grid m a; estimate = estimate; n = n; depth = depth }) ⌝ }
+{
+    judge_posed(Problem::new(m, a, depth), estimate, n)
+}
+
+// R60: the same of M in radians and e as doubles.
+pub fn judge_double(m: f64, e: f64, estimate: f64, n: u32, depth: u32) -> Judged
+    ensures { λ r. ⌜ r ≡ judgeRule (record { given = doubles m e; estimate = estimate; n = n; depth = depth }) ⌝ }
+{
+    judge_posed(Problem::of_doubles(m, e, depth), estimate, n)
 }

@@ -5,12 +5,13 @@ ghost use lib.IntN.{pos};
 ghost use Rattle.whole.specs.Room.{Roomy};
 ghost use Rattle.grid.specs.Grid.{T-units};
 ghost use Rattle.orbit.specs.Mirror.{mirror, mirrorEnd};
-ghost use Rattle.orbit.specs.Cell.{gridCell};
-ghost use Rattle.orbit.specs.Given.{grid, codedCell, codedProblem};
+ghost use Rattle.orbit.specs.Cell.{gridCell, spanOf};
+ghost use Rattle.orbit.specs.Given.{Given, grid, doubles, codedCell, codedProblem};
 use grid::Angle;
 use grid::Depth;
 use grid::Eccentricity;
 use grid::codes;
+use units::Units;
 
 // R59: a number, or on the mirror its negative.
 pub fn mirror(z: i64, mirrored: bool) -> i64
@@ -39,6 +40,17 @@ pub fn mirror_end(upper: bool, mirrored: bool) -> bool
 pub struct Span {
     pub down: u64,
     pub up: u64,
+}
+
+impl Span {
+    fn of_units(u: Units) -> Span
+        ensures { λ r. ⌜ r ≡ spanOf u ⌝ }
+    {
+        Span {
+            down: u.floor,
+            up: u.ceiling,
+        }
+    }
 }
 
 // M, and A of the eccentricity A / 2^28.
@@ -93,6 +105,32 @@ impl Cell {
             }
         }
     }
+
+    // R60: M in radians and e, each rounded down and up. Either zero is 0; a NaN is below nothing, and gets its code.
+    pub fn of_doubles(m: f64, e: f64) -> CodedCell
+        ensures { λ r. ⌜ r ≡ codedCell (doubles m e) ⌝ }
+    {
+        let mirrored = m < 0.0;
+        let size = units::mirror(m, mirrored);
+        let mean = units::in_units(size, Angle::H, codes::BAD_M);
+        let shape = units::in_units(e, Eccentricity::ONE, codes::BAD_A);
+        let code = codes::earlier(mean.code, shape.code);
+        if code == codes::DONE {
+            let m = Span::of_units(mean.units);
+            let a = Span::of_units(shape.units);
+            CodedCell {
+                code,
+                mirrored,
+                cell: Cell { m, a },
+            }
+        } else {
+            CodedCell {
+                code,
+                mirrored: false,
+                cell: Cell::on_grid(0, 0),
+            }
+        }
+    }
 }
 
 // A cell and a depth: what end tests, searches and the judge are asked about.
@@ -113,7 +151,20 @@ impl Problem {
     pub fn new(m: i32, a: u32, depth: u32) -> CodedProblem
         ensures { λ r. ⌜ r ≡ codedProblem (grid m a) depth ⌝ }
     {
-        let posed = Cell::new(m, a);
+        Problem::at_depth(Cell::new(m, a), depth)
+    }
+
+    // R60: the same of M and e as doubles.
+    pub fn of_doubles(m: f64, e: f64, depth: u32) -> CodedProblem
+        ensures { λ r. ⌜ r ≡ codedProblem (doubles m e) depth ⌝ }
+    {
+        Problem::at_depth(Cell::of_doubles(m, e), depth)
+    }
+
+    // A cell at a depth, whatever was given.
+    fn at_depth(posed: CodedCell, depth: u32) -> CodedProblem
+        ensures { λ r. ⌜ (g : Given) → posed ≡ codedCell g → r ≡ codedProblem g depth ⌝ }
+    {
         let made = Depth::new(depth);
         let code = codes::earlier(posed.code, made.code);
         let cell = posed.cell;

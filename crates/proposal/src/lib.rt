@@ -1,7 +1,7 @@
 // The proposal: where the rotations end, and the certificate that says how near the root is.
 ghost use mathlib.Core.Path.{_≡_};
 ghost use Prim.Native.Nat.{_^_, _<_};
-ghost use Rattle.orbit.specs.Given.{grid};
+ghost use Rattle.orbit.specs.Given.{Given, grid, doubles, codedCell, CodedCellIn};
 ghost use Rattle.proposal.specs.Certify.{widths, certifies, certificate};
 ghost use Rattle.proposal.specs.Propose.{concluded, mirrorProposal, proposalRule};
 ghost use Rattle.proposal.specs.Ready.{Triable, Concludable};
@@ -9,6 +9,7 @@ use grid::Angle;
 use grid::Depth;
 use grid::codes;
 use orbit::Cell;
+use orbit::CodedCell;
 use orbit::Problem;
 use rotations::State;
 
@@ -82,14 +83,11 @@ fn conclude(cell: Cell, s: State, mirrored: bool) -> Proposal
     }
 }
 
-// Given: the mean anomaly m, -H to H units, and the eccentricity a / 2^28, a from 0 to 2^28.
-// Returned: the angle E proposed, y and x of the last rotation, and the certificate j, the smallest width such that the ends
-// max(E - 2^j, 0) and min(E + 2^j, T) are accepted at depth 5 (R38). How near E is, j alone says (R39).
-// Code: 0 done; 1 m above H; 2 a above 2^28. With code 1 or 2 all other numbers are 0.
-pub fn propose(m: i32, a: u32) -> Proposal
-    ensures { λ r. ⌜ r ≡ proposalRule (grid m a) ⌝ }
+// The proposal for whatever was given, or its code: the rotations go by M and A rounded down.
+fn propose_posed(posed: CodedCell) -> Proposal
+    requires { ⌜ CodedCellIn posed ⌝ }
+    ensures { λ r. ⌜ (g : Given) → posed ≡ codedCell g → r ≡ proposalRule g ⌝ }
 {
-    let posed = Cell::new(m, a);
     if posed.code != codes::DONE {
         return Proposal {
             code: posed.code,
@@ -107,4 +105,21 @@ pub fn propose(m: i32, a: u32) -> Proposal
         rotations::rotate(mean.down, shape.down),
         posed.mirrored,
     )
+}
+
+// Given: the mean anomaly m, -H to H units, and the eccentricity a / 2^28, a from 0 to 2^28.
+// Returned: the angle E proposed, y and x of the last rotation, and the certificate j, the smallest width such that the ends
+// max(E - 2^j, 0) and min(E + 2^j, T) are accepted at depth 5 (R38). How near E is, j alone says (R39).
+// Code: 0 done; 1 m above H; 2 a above 2^28. With code 1 or 2 all other numbers are 0.
+pub fn propose(m: i32, a: u32) -> Proposal
+    ensures { λ r. ⌜ r ≡ proposalRule (grid m a) ⌝ }
+{
+    propose_posed(Cell::new(m, a))
+}
+
+// R60: the same of M in radians and e as doubles.
+pub fn propose_double(m: f64, e: f64) -> Proposal
+    ensures { λ r. ⌜ r ≡ proposalRule (doubles m e) ⌝ }
+{
+    propose_posed(Cell::of_doubles(m, e))
 }

@@ -1,7 +1,7 @@
 // The C library: every entry, thin over the crate that has its rule. include/stripeawn.h documents them for C.
 ghost use mathlib.Core.Path.{_≡_};
 ghost use Rattle.series.specs.Entry.{sineRule};
-ghost use Rattle.orbit.specs.Given.{grid};
+ghost use Rattle.orbit.specs.Given.{grid, doubles};
 ghost use Rattle.ends.specs.Entry.{lowerRule, upperRule};
 ghost use Rattle.enclosure.specs.Enclosure.{enclosureRule};
 ghost use lib.ListN.{length};
@@ -38,10 +38,31 @@ pub extern "C" fn stripeawn_upper_end(x: i32, m: i32, a: u32, depth: u32) -> End
 }
 
 #[no_mangle]
+pub extern "C" fn stripeawn_lower_end_double(x: i32, m: f64, e: f64, depth: u32) -> End
+    ensures { λ r. ⌜ r ≡ lowerRule x (doubles m e) depth ⌝ }
+{
+    ends::lower_end_double(x, m, e, depth)
+}
+
+#[no_mangle]
+pub extern "C" fn stripeawn_upper_end_double(x: i32, m: f64, e: f64, depth: u32) -> End
+    ensures { λ r. ⌜ r ≡ upperRule x (doubles m e) depth ⌝ }
+{
+    ends::upper_end_double(x, m, e, depth)
+}
+
+#[no_mangle]
 pub extern "C" fn stripeawn_enclose(m: i32, a: u32, depth: u32) -> Enclosure
     ensures { λ r. ⌜ r ≡ enclosureRule (grid m a) depth ⌝ }
 {
     enclosure::enclose(m, a, depth)
+}
+
+#[no_mangle]
+pub extern "C" fn stripeawn_enclose_double(m: f64, e: f64, depth: u32) -> Enclosure
+    ensures { λ r. ⌜ r ≡ enclosureRule (doubles m e) depth ⌝ }
+{
+    enclosure::enclose_double(m, e, depth)
 }
 
 #[no_mangle]
@@ -52,10 +73,24 @@ pub extern "C" fn stripeawn_propose(m: i32, a: u32) -> Proposal
 }
 
 #[no_mangle]
+pub extern "C" fn stripeawn_propose_double(m: f64, e: f64) -> Proposal
+    ensures { λ r. ⌜ r ≡ proposalRule (doubles m e) ⌝ }
+{
+    proposal::propose_double(m, e)
+}
+
+#[no_mangle]
 pub extern "C" fn stripeawn_judge(m: i32, a: u32, estimate: f64, n: u32, depth: u32) -> Judged
     ensures { λ r. ⌜ r ≡ judgeRule (record { given = grid m a; estimate = estimate; n = n; depth = depth }) ⌝ }
 {
     judge::judge(m, a, estimate, n, depth)
+}
+
+#[no_mangle]
+pub extern "C" fn stripeawn_judge_double(m: f64, e: f64, estimate: f64, n: u32, depth: u32) -> Judged
+    ensures { λ r. ⌜ r ≡ judgeRule (record { given = doubles m e; estimate = estimate; n = n; depth = depth }) ⌝ }
+{
+    judge::judge_double(m, e, estimate, n, depth)
 }
 
 #[no_mangle]
