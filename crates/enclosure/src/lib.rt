@@ -1,10 +1,9 @@
 // The enclosure of a problem's eccentric anomaly between two accepted ends, found by halving.
 ghost use mathlib.Core.Path.{_≡_};
 ghost use mathlib.Core.List.{[], _∷_};
-ghost use Prim.Native.Nat.{ℕ};
 ghost use Rattle.grid.specs.Grid.{T-units};
 ghost use Rattle.grid.specs.Codes.{checked};
-ghost use Rattle.orbit.specs.Given.{Given, grid, doubles, codedProblem, ProblemIn, PosedIn};
+ghost use Rattle.orbit.specs.Given.{grid, doubles, ProblemIn, ByProblem, PosedIn};
 ghost use Rattle.ends.specs.Corner.{Asked};
 ghost use Rattle.enclosure.specs.Halving.{lastBracket};
 ghost use Rattle.enclosure.specs.Enclosure.{T-check, refusal, mirrorEnds, enclosed, enclosureRule};
@@ -110,7 +109,7 @@ fn enclose_problem(problem: Problem, mirrored: bool) -> Enclosure
 // The enclosure of whatever was given, or its code.
 fn enclose_posed(posed: CodedProblem) -> Enclosure
     requires { ⌜ PosedIn posed ⌝ }
-    ensures { λ r. ⌜ (g : Given) (d : ℕ) → posed ≡ codedProblem g d → r ≡ enclosureRule g d ⌝ }
+    ensures { λ r. ⌜ ByProblem posed enclosureRule r ⌝ }
 {
     if posed.code != codes::DONE {
         return refused(posed.code);

@@ -6,7 +6,7 @@ use lib.Dec.{T}
 use lib.IntN.{ℤ}
 use Rattle.grid.proofs.FirstCode.{coded}
 use Rattle.grid.proofs.Refuses.{Makes, makes}
-use Rattle.orbit.specs.Given.{Given, grid}
+use Rattle.orbit.specs.Given.{Given, grid, doubles}
 use Rattle.ends.specs.Entry.{endChecks, endRefused, flagged, endOf}
 use Rattle.ends.specs.declared.End.{End}
 
@@ -16,6 +16,7 @@ flag-done false = refl
 
 end-coded : (x : ℤ) (g : Given) (d : ℕ) → T (coded (endChecks x g d))
 end-coded x (grid m a) d = tt
+end-coded x (doubles m e) d = tt
 
 pub ends : (upper : Bool) (x : ℤ) (g : Given) (d : ℕ)
     → Makes (endChecks x g d) (λ (r : End). r .code) endRefused (flagged (endOf upper g d x))

@@ -15,7 +15,7 @@ use Rattle.orbit.specs.Cell.{Orbit, orbitAt, CellIn}
 use Rattle.orbit.specs.declared.Cell.{Cell}
 use Rattle.ends.specs.Ends.{lowerEnd, upperEnd}
 use Rattle.ends.proofs.BothEnds.{Spares}
-use Rattle.ends.proofs.InNaturals.{LowerExact, UpperExact, lower-exact, upper-exact}
+use Rattle.ends.proofs.InNaturals.{BelowBy, AboveBy}
 use Rattle.ends.proofs.Corners.{below-corners, above-corners, lesser-mean}
 use Rattle.ends.proofs.Exact.{below-true, above-true}
 
@@ -27,19 +27,18 @@ gap u a b D X Y M sX oX sY oY e some den above rise lower upper =
     let y : u * (Y * D) ≡ (a + b) * (Y * D) = ap (λ (k : ℕ). k * (Y * D)) e in
     omega (arith, mul-le-mul-left a rise, mul-le-mul-left (b * D) above, mul-le-mul-left b den)
 
-exact-apart : (o : Orbit) (X Y : ℕ) → o .a ≤ one → X ≤ T-units → LowerExact o X → UpperExact o Y → X ≤ Y
+exact-apart : (o : Orbit) (X Y : ℕ) → o .a ≤ one → X ≤ T-units → BelowBy 0 o X → AboveBy 0 o Y → X ≤ Y
 exact-apart o X Y e w p q = nltb→le Y X (not-T (ltb Y X) (λ t. clash (ltb→lt Y X t)))
   where
     last : Spares 0 (one * o .m) (one * Y) (o .a) den9 (same sine Y 9) (other sine Y 9)
     last =
-        let h = upper-exact o Y .0 q in
         let k = drop-last sine sine-divides Y 9 (o .a) (one * Y) (one * o .m) (omega arith) in
         omega arith
 
     clash : Y < X → ⊥
     clash above =
         gap one (o .a) (one - o .a) den9 X Y (o .m) (same sine X 9) (other sine X 9) (same sine Y 9) (other sine Y 9)
-        (omega arith) (omega arith) (den-pos sine sine-divides 9) above (sine-rises Y X above w) (lower-exact o X .0 p) last
+        (omega arith) (omega arith) (den-pos sine sine-divides 9) above (sine-rises Y X above w) p last
 
 -- R21: of a cell, at any depths, equal or not: both tests hold at the corner of the least M and the least A
 pub apart : (c : Cell) (X Y d e : ℕ) → CellIn c → X ≤ T-units → Y ≤ T-units → d ≤ depths → e ≤ depths

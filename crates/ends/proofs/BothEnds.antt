@@ -3,9 +3,10 @@
 -- -Hi and -S_10. Assumes nothing.
 use mathlib.Core.Path.{_≡_, ap}
 use mathlib.Core.Logic.{_↔_}
-use Prim.Native.Nat.{ℕ, _+_, _*_, _≤_, _<_}
+use Prim.Native.Nat.{ℕ, _+_, _-_, _*_, _≤_, _<_}
 use native.Mathlib.Omega.{arith}
-use native.Mathlib.Nat.{mul-le-mul-left, mul-le-mul-right, le-of-mul-le-mul-right}
+use native.Mathlib.Nat.{mul-le-mul-left, mul-le-mul-right, le-of-mul-le-mul-right, le-of-lt, lt-of-not-le}
+use native.Mathlib.Decide.{decLe}
 
 -- l - r <= a (p - q): the test
 abbrev pub Accepts : ℕ → ℕ → ℕ → ℕ → ℕ → Type 0
@@ -34,3 +35,22 @@ module _ (l r a : ℕ) where
       let f : a * p ≡ 0 * p = ap (λ (k : ℕ). k * p) e in
       let g : a * q ≡ 0 * q = ap (λ (k : ℕ). k * q) e in
       (λ h. omega arith, λ h. omega arith)
+
+-- what holds with d and with u in the place of a holds with every fraction k / s between them, whatever the sum's sign
+pub between : (l r d u D f g k s : ℕ) → Spares 0 l r d D f g → Spares 0 l r u D f g → d * s ≤ k → k ≤ u * s
+    → l * D * s + k * g ≤ r * D * s + k * f
+between l r d u D f g k s low high least most =
+    elim (decLe g f) [
+      | yes h ↦
+          let j : ℕ = k - d * s in
+          let e : k ≡ d * s + j = omega arith in
+          let p : k * g ≡ (d * s + j) * g = ap (λ (n : ℕ). n * g) e in
+          let q : k * f ≡ (d * s + j) * f = ap (λ (n : ℕ). n * f) e in
+          omega (arith, mul-le-mul-right s low, mul-le-mul-left j h)
+      | no n ↦
+          let j : ℕ = u * s - k in
+          let e : u * s ≡ k + j = omega arith in
+          let p : u * s * g ≡ (k + j) * g = ap (λ (n : ℕ). n * g) e in
+          let q : u * s * f ≡ (k + j) * f = ap (λ (n : ℕ). n * f) e in
+          omega (arith, mul-le-mul-right s high, mul-le-mul-left j (le-of-lt (lt-of-not-le n)))
+    ]

@@ -25,7 +25,7 @@ use Rattle.orbit.specs.declared.Cell.{Cell}
 use Rattle.ends.specs.Ends.{belowAt, aboveAt, lowerEnd, upperEnd}
 use Rattle.ends.proofs.BothEnds.{no-sine}
 use Rattle.ends.proofs.Corners.{below-corners, above-corners, deeper}
-use Rattle.ends.proofs.InNaturals.{below-test, above-test, lower-exact}
+use Rattle.ends.proofs.InNaturals.{below-test, above-test}
 use Rattle.ends.proofs.Exact.{below-true}
 
 -- ---- three computed facts
@@ -56,7 +56,7 @@ zero-lower c d = below-corners c 0 (Lo 0 d) .1 (zero-below _ d, zero-below _ d)
 
 T-not-below : (o : Orbit) (d : ℕ) → o .m ≤ H-units → d ≤ depths → T (belowAt o T-units (Lo T-units d)) → ⊥
 T-not-below o d m j t =
-    let h = lower-exact o T-units .0 (below-true o T-units (omega arith) d j t) in
+    let h = below-true o T-units (omega arith) d j t in
     let k : other sine T-units 9 ≤ same sine T-units 9 =
     (let n = le-parts (S9-parts T-units) (is-pos 0) .0 sum-at-T in omega arith) in
     omega (arith, den-pos sine sine-divides 9, mul-le-mul-left (o .a) k, mul-le-mul-right den9 m)

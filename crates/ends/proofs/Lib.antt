@@ -2,6 +2,7 @@ pub mod BothEnds
 pub mod InNaturals
 pub mod Corners
 pub mod Exact
+pub mod Fractions
 pub mod Mirror
 pub mod Apart
 pub mod Known

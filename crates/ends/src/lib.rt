@@ -1,8 +1,8 @@
 // The two end tests: whether an angle is accepted as an end below or above the root.
 ghost use mathlib.Core.Path.{_≡_};
-ghost use Prim.Native.Nat.{ℕ, _+_, _*_};
+ghost use Prim.Native.Nat.{_+_, _*_};
 ghost use Rattle.orbit.specs.Cell.{orbitAt};
-ghost use Rattle.orbit.specs.Given.{Given, grid, doubles, codedProblem, PosedIn};
+ghost use Rattle.orbit.specs.Given.{grid, doubles, ByProblem, PosedIn};
 ghost use Rattle.ends.specs.Ends.{endAt, lowerEnd, upperEnd};
 ghost use Rattle.ends.specs.Entry.{endRule, lowerRule, upperRule, flagged};
 ghost use Rattle.ends.specs.Corner.{Asked, Settling, CornerIn, BoundIn, WalkIn, oneMean, cornerOf, testBy, atDepth};
@@ -176,7 +176,7 @@ fn flag(accepted: bool) -> End
 // tested.
 fn end_test(x: i32, posed: CodedProblem, upper: bool) -> End
     requires { ⌜ PosedIn posed ⌝ }
-    ensures { λ r. ⌜ (g : Given) (d : ℕ) → posed ≡ codedProblem g d → r ≡ endRule upper x g d ⌝ }
+    ensures { λ r. ⌜ ByProblem posed (endRule upper x) r ⌝ }
 {
     let mirrored = posed.mirrored;
     let made = Angle::of_signed(orbit::mirror(x as i64, mirrored));

@@ -1,7 +1,6 @@
 // The judge of a claim: does Kepler's equation have its root within N units of an estimate?
 ghost use mathlib.Core.Path.{_≡_};
-ghost use Prim.Native.Nat.{ℕ};
-ghost use Rattle.orbit.specs.Given.{Given, grid, doubles, codedProblem, PosedIn};
+ghost use Rattle.orbit.specs.Given.{grid, doubles, ByProblem, PosedIn};
 ghost use Rattle.judge.specs.Verdict.{confirmed, lowerAbove, upperBelow, verdictNumber};
 ghost use Rattle.judge.specs.Judge.{caseVerdict, judgeRule};
 ghost use Rattle.judge.specs.Limits.{CaseIn};
@@ -116,7 +115,7 @@ fn decide(k: Case) -> Verdict
 // The verdict on a claim about whatever was given, or its code. On the mirror the estimate is mirrored.
 fn judge_posed(posed: CodedProblem, estimate: f64, n: u32) -> Judged
     requires { ⌜ PosedIn posed ⌝ }
-    ensures { λ r. ⌜ (g : Given) (d : ℕ) → posed ≡ codedProblem g d → r ≡ judgeRule (record { given = g; estimate = estimate; n = n; depth = d }) ⌝ }
+    ensures { λ r. ⌜ ByProblem posed (λ g d. judgeRule (record { given = g; estimate = estimate; n = n; depth = d })) r ⌝ }
 {
     let value = units::mirror(estimate, posed.mirrored);
     let made = units::in_units(value, Angle::T, codes::BAD_ESTIMATE);

@@ -3,35 +3,54 @@
 use Prim.Native.Nat.{ℕ}
 use mathlib.Core.Bool.{Bool, false}
 use mathlib.Core.List.{List, [], _∷_, _++_}
-use lib.IntN.{ℤ, natAbs}
+use mathlib.Core.Path.{_≡_}
+use lib.IntN.{ℤ, pos, natAbs}
+use lib.Ieee.{Float}
+use lib.Ieee.Positive.{den}
 use Rattle.whole.specs.Sign.{negative}
-use Rattle.grid.specs.Codes.{Check, number, done, checked, m-check, a-check, depth-check}
+use Rattle.grid.specs.Grid.{one, H-units}
+use Rattle.grid.specs.Codes.{Check, number, done, bad-m, bad-a, checked, m-check, a-check, depth-check}
 use Rattle.grid.specs.Limits.{DepthIn}
-use Rattle.orbit.specs.Cell.{Exact, gridCell, CellIn}
+use Rattle.units.specs.Units.{mirrorDouble, belowZero, product, floorAndCeiling, range-check}
+use Rattle.orbit.specs.Mirror.{mirror}
+use Rattle.orbit.specs.Cell.{Exact, InCell, gridCell, spanOf, CellIn}
 use Rattle.orbit.specs.declared.Cell.{Cell}
 use Rattle.orbit.specs.declared.CodedCell.{CodedCell}
 use Rattle.orbit.specs.declared.Problem.{Problem}
 use Rattle.orbit.specs.declared.CodedProblem.{CodedProblem}
 
--- R1: M and A in units of the grid
+-- R1: M and A in units of the grid; R60: M in radians and e as doubles
 pub data Given : Type 0 where
   grid : ℤ → ℕ → Given
+  doubles : Float → Float → Given
+
+-- R60: M, or where it is below 0 its negative
+abbrev pub sizeOf : Float → Float
+sizeOf m = mirrorDouble (belowZero m) m
 
 -- R4, R5: the checks of M and A, codes 1 and 2: M is no angle, and its code is not 10
 abbrev pub checksOf : Given → List Check
 checksOf (grid m a) = m-check m ∷ a-check a ∷ []
+checksOf (doubles m e) = range-check (sizeOf m) H-units bad-m ∷ range-check e one bad-a ∷ []
 
 -- R59: whether it is mirrored, as a negative M is
 abbrev pub mirroredOf : Given → Bool
 mirroredOf (grid m a) = negative m
+mirroredOf (doubles m e) = belowZero m
 
 -- R1, R59: what is known in whole units of M, or on the mirror of -M, and of A
 abbrev pub cellOf : Given → Cell
 cellOf (grid m a) = gridCell (natAbs m) a
+cellOf (doubles m e) = record { m = spanOf (floorAndCeiling (sizeOf m)); a = spanOf (floorAndCeiling e) }
 
--- R1: M and A exactly
+-- R1: M and A exactly: a finite double is product / den units in size
 abbrev pub exactOf : Given → Exact
-exactOf (grid m a) = record { m = m; a = a }
+exactOf (grid m a) = record { p = m; q = 1; r = a; s = 1 }
+exactOf (doubles m e) = record { p = mirror (belowZero m) (pos (product m)); q = den m; r = product e; s = den e }
+
+-- R60: an exact M and A that what is given leaves possible
+abbrev pub Possible : Given → Exact → Type 0
+Possible g o = InCell (cellOf g) (mirroredOf g) o
 
 -- R4: a code, a mark and a cell
 abbrev pub cellWith : ℕ → Bool → Cell → CodedCell
@@ -70,3 +89,19 @@ codedProblem g d =
 pub record ProblemIn (p : Problem) : Type 0 where
   pub cell : CellIn (p .cell)
   pub depth : DepthIn (p .depth)
+
+-- ---- what was posed, whatever was given; no entry's contract cites this
+
+-- r is a rule's answer to whatever was given that is posed so
+abbrev pub ByCell : {A : Type 0} → CodedCell → (Given → A) → A → Type 0
+ByCell posed rule r = (g : Given) → posed ≡ codedCell g → r ≡ rule g
+
+abbrev pub ByProblem : {A : Type 0} → CodedProblem → (Given → ℕ → A) → A → Type 0
+ByProblem posed rule r = (g : Given) (d : ℕ) → posed ≡ codedProblem g d → r ≡ rule g d
+
+-- R3, R4: its limits, where it has no code
+pub record CodedCellIn (c : CodedCell) : Type 0 where
+  pub cell : c .code ≡ number done → CellIn (c .cell)
+
+pub record PosedIn (p : CodedProblem) : Type 0 where
+  pub problem : p .code ≡ number done → ProblemIn (p .problem)

@@ -1,3 +1,3 @@
-pub mod Cell
 pub mod Mirror
+pub mod Cell
 pub mod Given

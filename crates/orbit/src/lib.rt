@@ -6,7 +6,7 @@ ghost use Rattle.whole.specs.Room.{Roomy};
 ghost use Rattle.grid.specs.Grid.{T-units};
 ghost use Rattle.orbit.specs.Mirror.{mirror, mirrorEnd};
 ghost use Rattle.orbit.specs.Cell.{gridCell, spanOf};
-ghost use Rattle.orbit.specs.Given.{Given, grid, doubles, codedCell, codedProblem};
+ghost use Rattle.orbit.specs.Given.{grid, doubles, codedCell, codedProblem, ByCell};
 use grid::Angle;
 use grid::Depth;
 use grid::Eccentricity;
@@ -163,7 +163,7 @@ impl Problem {
 
     // A cell at a depth, whatever was given.
     fn at_depth(posed: CodedCell, depth: u32) -> CodedProblem
-        ensures { λ r. ⌜ (g : Given) → posed ≡ codedCell g → r ≡ codedProblem g depth ⌝ }
+        ensures { λ r. ⌜ ByCell posed (λ g. codedProblem g depth) r ⌝ }
     {
         let made = Depth::new(depth);
         let code = codes::earlier(posed.code, made.code);

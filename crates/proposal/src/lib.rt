@@ -1,7 +1,7 @@
 // The proposal: where the rotations end, and the certificate that says how near the root is.
 ghost use mathlib.Core.Path.{_≡_};
 ghost use Prim.Native.Nat.{_^_, _<_};
-ghost use Rattle.orbit.specs.Given.{Given, grid, doubles, codedCell, CodedCellIn};
+ghost use Rattle.orbit.specs.Given.{grid, doubles, ByCell, CodedCellIn};
 ghost use Rattle.proposal.specs.Certify.{widths, certifies, certificate};
 ghost use Rattle.proposal.specs.Propose.{concluded, mirrorProposal, proposalRule};
 ghost use Rattle.proposal.specs.Ready.{Triable, Concludable};
@@ -86,7 +86,7 @@ fn conclude(cell: Cell, s: State, mirrored: bool) -> Proposal
 // The proposal for whatever was given, or its code: the rotations go by M and A rounded down.
 fn propose_posed(posed: CodedCell) -> Proposal
     requires { ⌜ CodedCellIn posed ⌝ }
-    ensures { λ r. ⌜ (g : Given) → posed ≡ codedCell g → r ≡ proposalRule g ⌝ }
+    ensures { λ r. ⌜ ByCell posed proposalRule r ⌝ }
 {
     if posed.code != codes::DONE {
         return Proposal {

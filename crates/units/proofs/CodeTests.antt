@@ -7,7 +7,7 @@ use native.Mathlib.Nat.{lt-of-le-of-lt, mul-one, mul-le-mul-right, le-of-lt, zer
 use native.Mathlib.Omega.{arith}
 use lib.Dec.{T, leb, ltb, eqb, leb→le, eqb→eq}
 use lib.IntN.{ℤ, pos}
-use borrow.Author.Tests.{lt-ltb, le-leb, leb-true, leb-false}
+use borrow.Author.Tests.{lt-ltb, le-ltb, le-leb, leb-true, leb-false}
 use lib.Ieee.{Float, nan, inf, fin, binary64, up, down, round, mul, lt, le, ofInt, toUnsigned, fits}
 use lib.Ieee.Positive.{num, den, den-pos, above, above-of-le, positive-of-value}
 use lib.Ieee.Fits.{up-pos, down-pos, and-l}
@@ -15,7 +15,7 @@ use lib.Ieee.Exact.{HasValue}
 use lib.Ieee.Back.{round-whole}
 use lib.Ieee.Order.{round-mono}
 use Rattle.grid.specs.Grid.{one}
-use Rattle.units.specs.Units.{product, offRange}
+use Rattle.units.specs.Units.{belowZero, product, offRange}
 use Rattle.units.specs.Exact.{radian, Value}
 use Rattle.units.proofs.Value.{compares, cut}
 use Rattle.units.proofs.Range.{InRange, passed-in-range, floor-fits, product-value, top}
@@ -32,6 +32,17 @@ plain (fin s m e) a c v = (λ z. absurd (subst T (v .0) z), v .1)
 whole-value : (n : ℕ) → n ≤ top → Value (ofInt binary64 (pos n)) n 1
 unfolding ofInt
 whole-value n h = plain (round binary64 false n 1) n 1 (round-whole binary64 false n (omega arith))
+
+-- ---- the sign
+
+pub below-zero : (x : Float) → lt x none ≡ belowZero x
+unfolding lt belowZero
+below-zero nan = refl
+below-zero (inf s) = refl
+below-zero (fin false m e) = le-ltb (m * up e * 1) (0 * 1 * down e) (omega arith)
+below-zero (fin true zero e) = le-ltb 0 (0 * up e * 1 + 0 * 1 * down e) (omega arith)
+below-zero (fin true (suc m) e) =
+    let u = up-pos e in lt-ltb 0 (suc m * up e * 1 + 0 * 1 * down e) (omega arith) ∙ sym (lt-ltb 0 (suc m) (zero-lt-suc m))
 
 -- ---- a number in range passes both tests, so one that fails a test is off range
 

@@ -1,4 +1,4 @@
--- From a binary64 number to whole units, R41, or the code of one that is off range, R5.
+-- From a binary64 number to whole units, R41 and R60, or the code of one that is off range, R5.
 use Prim.Native.Nat.{ℕ, _*_}
 use mathlib.Core.Bool.{Bool, true, false, _&&_, cond}
 use mathlib.Core.List.{[], _∷_}
@@ -15,6 +15,12 @@ use Rattle.units.specs.declared.CodedUnits.{CodedUnits}
 abbrev pub mirrorDouble : Bool → Float → Float
 mirrorDouble false x = x
 mirrorDouble true x = neg x
+
+-- R60: whether a double is below 0: neither zero is, nor a NaN
+unfoldable pub belowZero : Float → Bool
+belowZero nan = false
+belowZero (inf s) = s
+belowZero (fin s m exp) = s && ltb 0 m
 
 -- R41: a finite number is num / den in size, so it is exactly product / den units
 abbrev pub product : Float → ℕ

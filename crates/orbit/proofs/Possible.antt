@@ -1,0 +1,101 @@
+-- What is given is itself possible: M and A of the grid, and the values that two doubles are, lie in their cell. Assumes nothing.
+use mathlib.Core.Path.{_≡_, refl}
+use mathlib.Core.Bool.{Bool, true, false, true≢false}
+use Prim.Native.Nat.{ℕ, zero, suc, _+_, _*_, _≤_}
+use native.Mathlib.Omega.{arith}
+use borrow.Author.Tests.{lt-ltb}
+use native.Mathlib.Nat.{zero-lt-suc}
+use lib.IntN.{ℤ, pos, negsuc, natAbs}
+use lib.Signed.{_≤ℤ_}
+use lib.Ieee.{Float, nan, inf, fin, neg, up, down}
+use lib.Ieee.Positive.{den, den-pos}
+use Rattle.whole.specs.Sign.{negative}
+use Rattle.whole.proofs.Parts.{shift, is-pos, is-neg, is-mul}
+use Rattle.whole.proofs.Order.{le-parts, one-number}
+use Rattle.whole.proofs.Round.{down-le, le-up}
+use Rattle.grid.specs.Grid.{one, H-units}
+use Rattle.grid.specs.Codes.{Passed}
+use Rattle.units.specs.Units.{mirrorDouble, belowZero, product, offRange}
+use Rattle.units.specs.Exact.{InUnits}
+use Rattle.orbit.specs.Mirror.{mirror}
+use Rattle.orbit.specs.Given.{Given, grid, doubles, checksOf, exactOf, Possible}
+
+-- mirrored twice is not mirrored
+pub back : (mirrored : Bool) (X : ℕ) → mirror mirrored (mirror mirrored (pos X)) ≡ pos X
+back false X = refl
+back true zero = refl
+back true (suc X) = refl
+
+pub pos-le : {a b : ℕ} → a ≤ b → pos a ≤ℤ pos b
+pos-le {a} {b} h = le-parts (is-pos a) (is-pos b) .1 (omega arith)
+
+-- the mirror of a negative number is its size
+size-is : (m : ℤ) → mirror (negative m) m ≡ pos (natAbs m)
+size-is (pos n) = refl
+size-is (negsuc n) = refl
+
+-- a double and its mirror have one size
+same-product : (t : Bool) (x : Float) → product (mirrorDouble t x) ≡ product x
+unfolding neg
+same-product false x = refl
+same-product true nan = refl
+same-product true (inf s) = refl
+same-product true (fin s m e) = refl
+
+same-den : (t : Bool) (x : Float) → den (mirrorDouble t x) ≡ den x
+unfolding neg
+same-den false x = refl
+same-den true nan = refl
+same-den true (inf s) = refl
+same-den true (fin s m e) = refl
+
+pub own-possible : (g : Given) → Possible g (exactOf g)
+own-possible (grid m a) =
+    record {
+      over-q = omega arith;
+      over-s = omega arith;
+      m-least = rw (size-is m) (pos-le (omega arith));
+      m-most = rw (size-is m) (pos-le (omega arith));
+      a-least = omega arith;
+      a-most = omega arith;
+    }
+own-possible (doubles m e) =
+    let t = belowZero m in
+    record {
+      over-q = den-pos m;
+      over-s = den-pos e;
+      m-least = rw (back t (product m), same-product t m, same-den t m) (pos-le (down-le (product m) (den m)));
+      m-most = rw (back t (product m), same-product t m, same-den t m) (pos-le (le-up (product m) (den m) (den-pos m)));
+      a-least = down-le (product e) (den e);
+      a-most = le-up (product e) (den e) (den-pos e);
+    }
+
+-- ---- the doubles' values
+
+-- the fraction of M is what the double is, with its sign
+mean-value : (m : Float) → offRange H-units (mirrorDouble (belowZero m) m) ≡ false → InUnits m (mirror (belowZero m) (pos (product m))) (den m)
+unfolding offRange belowZero neg
+mean-value nan h = absurd (true≢false h)
+mean-value (inf true) h = absurd (true≢false h)
+mean-value (inf false) h = absurd (true≢false h)
+mean-value (fin false m e) h =
+    one-number (is-mul (down e) (is-pos (product (fin false m e)))) (shift (is-mul (one * down e) (is-pos (m * up e))) (omega arith))
+mean-value (fin true zero e) h =
+    one-number (is-mul (down e) (is-pos (one * (0 * up e)))) (shift (is-mul (one * down e) (is-neg (is-pos (0 * up e)))) (omega arith))
+mean-value (fin true (suc m) e) h =
+    rw (lt-ltb 0 (suc m) (zero-lt-suc m))
+    (one-number (is-mul (down e) (is-neg (is-pos (one * (suc m * up e))))) (shift (is-mul (one * down e) (is-neg (is-pos (suc m * up e)))) (omega arith)))
+
+shape-value : (e : Float) → offRange one e ≡ false → InUnits e (pos (product e)) (den e)
+unfolding offRange
+shape-value nan h = absurd (true≢false h)
+shape-value (inf s) h = absurd (true≢false h)
+shape-value (fin false m e) h =
+    one-number (is-mul (down e) (is-pos (product (fin false m e)))) (shift (is-mul (one * down e) (is-pos (m * up e))) (omega arith))
+shape-value (fin true zero e) h =
+    one-number (is-mul (down e) (is-pos (one * (0 * up e)))) (shift (is-mul (one * down e) (is-neg (is-pos (0 * up e)))) (omega arith))
+shape-value (fin true (suc m) e) h = absurd (true≢false (simp (lt-ltb 0 (suc m) (zero-lt-suc m)) at h))
+
+pub own-value : (m e : Float) → Passed (checksOf (doubles m e))
+    → let o = exactOf (doubles m e) in InUnits m (o .p) (o .q) × InUnits e (pos (o .r)) (o .s)
+own-value m e p = (mean-value m (p .0), shape-value e (p .1 .0))
