@@ -16,7 +16,7 @@ use Rattle.grid.specs.Refuses.{all}
 use Rattle.grid.proofs.FirstCode.{coded, split, only-last}
 use Rattle.grid.proofs.Refuses.{Makes, makes}
 use Rattle.orbit.specs.Cell.{gridCell, CellIn}
-use Rattle.orbit.specs.Given.{Given, grid, mirroredOf, cellOf, problemChecks, problemAt, ProblemIn}
+use Rattle.orbit.specs.Given.{Given, grid, doubles, mirroredOf, cellOf, problemChecks, problemAt, ProblemIn}
 use Rattle.orbit.specs.declared.Cell.{Cell}
 use Rattle.orbit.proofs.Posed.{problem-in}
 use Rattle.ends.specs.Ends.{lowerEnd, upperEnd}
@@ -31,6 +31,7 @@ use Rattle.enclosure.proofs.Searches.{LowerFound, UpperFound, lower-fou
 
 enclosure-coded : (g : Given) (d : ℕ) → T (coded (enclosureChecks g d))
 enclosure-coded (grid m a) d = tt
+enclosure-coded (doubles m e) d = tt
 
 mirrored-done : (mirrored : Bool) (a b : ℕ) → mirrorEnds mirrored a b .code ≡ 0
 mirrored-done true a b = refl
@@ -61,6 +62,7 @@ code-zero g d z =
 
 three-codes : (g : Given) (d : ℕ) → T (all (λ (c : Check). not (eqb (number (c .code)) 6)) (problemChecks g d))
 three-codes (grid m a) d = tt
+three-codes (doubles m e) d = tt
 
 -- R28: no code 6 from depth 4 on
 pub never-six : (g : Given) (d : ℕ) → 4 ≤ d → enclosureRule g d .code ≡ 6 → ⊥

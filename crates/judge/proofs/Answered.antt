@@ -12,7 +12,7 @@ use Rattle.grid.specs.Codes.{Passed, bad-n, depth-check, n-check}
 use Rattle.grid.proofs.FirstCode.{coded, split, join}
 use Rattle.grid.proofs.Refuses.{Makes, makes}
 use Rattle.grid.proofs.Fits.{limit-fits, depth-passes}
-use Rattle.orbit.specs.Given.{Given, grid, checksOf, cellOf, problemChecks}
+use Rattle.orbit.specs.Given.{Given, grid, doubles, checksOf, cellOf, problemChecks}
 use Rattle.orbit.proofs.Posed.{problem-in}
 use Rattle.units.specs.Units.{estimate-check}
 use Rattle.units.proofs.Rounding.{estimate-fits}
@@ -27,6 +27,7 @@ use Rattle.judge.proofs.Kept.{is-confirmed, is-refuted, confirmed-exact
 
 claim-coded : (g : Given) (d : ℕ) (x : Float) (n : ℕ) → T (coded (problemChecks g d ++ estimate-check x ∷ n-check n ∷ []))
 claim-coded (grid m a) d x n = tt
+claim-coded (doubles m e) d x n = tt
 
 module _ (k : Claim) where
   pub claims : Makes (claimChecks k) (λ (j : Judged). j .code) unjudged (verdict (caseVerdict (caseAt k)))

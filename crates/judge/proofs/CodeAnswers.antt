@@ -7,7 +7,7 @@ use lib.Ieee.{Float}
 use Rattle.grid.specs.Grid.{N-units}
 use Rattle.grid.specs.Codes.{checked, n-check}
 use Rattle.grid.proofs.Outcomes.{of-checked}
-use Rattle.orbit.specs.Given.{Given, grid, problemChecks}
+use Rattle.orbit.specs.Given.{Given, grid, doubles, problemChecks}
 use Rattle.units.specs.Units.{estimate-check}
 use Rattle.judge.specs.Verdict.{verdictNumber}
 use Rattle.judge.specs.Judge.{Claim, estimateOf, caseAt, caseVerdict, verdict, unjudged, judgeRule}
@@ -22,6 +22,9 @@ module _ (P : Judged → Type 0) (m : P (unjudged 1)) (a : P (unjudged 2)) (dept
       → P (checked (problemChecks g d ++ estimate-check x ∷ n-check n ∷ []) unjudged (verdict w))
   by-given (grid mean shape) d x n w tolerance =
       of-checked P unjudged (verdict w) (problemChecks (grid mean shape) d ++ estimate-check x ∷ n-check n ∷ [])
+      (λ t. m, (λ t. a, (λ t. depth, (λ t. estimate, (λ t. tolerance (ltb-true _ _ t), tt))))) (λ p. v w)
+  by-given (doubles mean ratio) d x n w tolerance =
+      of-checked P unjudged (verdict w) (problemChecks (doubles mean ratio) d ++ estimate-check x ∷ n-check n ∷ [])
       (λ t. m, (λ t. a, (λ t. depth, (λ t. estimate, (λ t. tolerance (ltb-true _ _ t), tt))))) (λ p. v w)
 
   pub of-judged : (c : Claim) → (N-units < c .n → P (unjudged 5)) → P (judgeRule c)
