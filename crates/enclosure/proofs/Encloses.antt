@@ -8,15 +8,14 @@ use Prim.Native.Nat.{ℕ, suc, _-_, _≤_}
 use native.Mathlib.Omega.{arith}
 use native.Mathlib.Nat.{lt-of-not-le}
 use borrow.Author.Tests.{le-ltb}
-use lib.Dec.{T, T-not, eqb, lit≤, lit<}
+use lib.Dec.{T, T-not, lit≤, lit<}
 use lib.IntN.{ℤ, pos, negsuc, natAbs}
 use Rattle.grid.specs.Grid.{H-units, T-units, depths}
-use Rattle.grid.specs.Codes.{Check, number, checked, bad-m, limit-check, a-check, depth-check}
-use Rattle.grid.specs.Refuses.{all}
-use Rattle.grid.proofs.FirstCode.{coded, split, only-last}
+use Rattle.grid.specs.Codes.{checked, bad-m, limit-check, a-check, depth-check}
+use Rattle.grid.proofs.FirstCode.{split, only-last}
 use Rattle.grid.proofs.Refuses.{Makes, makes}
 use Rattle.orbit.specs.Cell.{gridCell, CellIn}
-use Rattle.orbit.specs.Given.{Given, grid, doubles, mirroredOf, cellOf, problemChecks, problemAt, ProblemIn}
+use Rattle.orbit.specs.Given.{Given, grid, mirroredOf, cellOf, problemChecks, problemAt, ProblemIn}
 use Rattle.orbit.specs.declared.Cell.{Cell}
 use Rattle.orbit.proofs.Posed.{problem-in}
 use Rattle.ends.specs.Ends.{lowerEnd, upperEnd}
@@ -29,17 +28,13 @@ use Rattle.enclosure.proofs.Searches.{LowerFound, UpperFound, lower-fou
 
 -- ---- which code is given
 
-enclosure-coded : (g : Given) (d : ℕ) → T (coded (enclosureChecks g d))
-enclosure-coded (grid m a) d = tt
-enclosure-coded (doubles m e) d = tt
-
 mirrored-done : (mirrored : Bool) (a b : ℕ) → mirrorEnds mirrored a b .code ≡ 0
 mirrored-done true a b = refl
 mirrored-done false a b = refl
 
 pub enclosures : (g : Given) (d : ℕ)
     → Makes (enclosureChecks g d) (λ (e : Enclosure). e .code) refusal (enclosed (mirroredOf g) (cellOf g) d)
-enclosures g d = makes (mirrored-done (mirroredOf g) _ _) (λ k. refl) (enclosure-coded g d)
+enclosures g d = makes (mirrored-done (mirroredOf g) _ _) (λ k. refl) tt
 
 is-accepted : (t : Bool) → not t ≡ false → T t
 is-accepted true e = tt
@@ -60,15 +55,11 @@ code-zero g d z =
       ends = enclosures g d .says (enclosureRule g d) refl .made z;
     }
 
-three-codes : (g : Given) (d : ℕ) → T (all (λ (c : Check). not (eqb (number (c .code)) 6)) (problemChecks g d))
-three-codes (grid m a) d = tt
-three-codes (doubles m e) d = tt
-
 -- R28: no code 6 from depth 4 on
 pub never-six : (g : Given) (d : ℕ) → 4 ≤ d → enclosureRule g d .code ≡ 6 → ⊥
 never-six g d h six =
     let (p, q) =
-    only-last 6 (problemChecks g d) (T-check (cellOf g) d) (three-codes g d) (enclosures g d .demand .coded 6 (λ e. omega arith) .0 six) in
+    only-last 6 (problemChecks g d) (T-check (cellOf g) d) tt (enclosures g d .demand .coded 6 (λ e. omega arith) .0 six) in
     let i = problem-in g d p .cell .mean in
     T-not (upperEnd (cellOf g) d T-units) (subst T (sym q) tt) (T-upper (cellOf g) d (omega arith) h)
 

@@ -2,11 +2,9 @@
 use mathlib.Core.Path.{_≡_, refl}
 use mathlib.Core.Bool.{Bool, true, false}
 use Prim.Native.Nat.{ℕ}
-use lib.Dec.{T}
 use lib.IntN.{ℤ}
-use Rattle.grid.proofs.FirstCode.{coded}
 use Rattle.grid.proofs.Refuses.{Makes, makes}
-use Rattle.orbit.specs.Given.{Given, grid, doubles}
+use Rattle.orbit.specs.Given.{Given}
 use Rattle.ends.specs.Entry.{endChecks, endRefused, flagged, endOf}
 use Rattle.ends.specs.declared.End.{End}
 
@@ -14,10 +12,6 @@ pub flag-done : (t : Bool) → flagged t .code ≡ 0
 flag-done true = refl
 flag-done false = refl
 
-end-coded : (x : ℤ) (g : Given) (d : ℕ) → T (coded (endChecks x g d))
-end-coded x (grid m a) d = tt
-end-coded x (doubles m e) d = tt
-
 pub ends : (upper : Bool) (x : ℤ) (g : Given) (d : ℕ)
     → Makes (endChecks x g d) (λ (r : End). r .code) endRefused (flagged (endOf upper g d x))
-ends upper x g d = makes (flag-done (endOf upper g d x)) (λ k. refl) (end-coded x g d)
+ends upper x g d = makes (flag-done (endOf upper g d x)) (λ k. refl) tt

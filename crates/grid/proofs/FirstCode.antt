@@ -27,13 +27,6 @@ goes [] p refused given = refl
 goes {A} (c ∷ cs) p refused given =
     ap (λ (t : Bool). cond t (refused (number (c .code))) (checked cs refused given)) (p .0) ∙ goes cs (p .1) refused given
 
--- checks one after the other: the first ones answer, or the rest do
-pub in-two : {A : Type 0} (cs ds : List Check) (refused : ℕ → A) (given : A)
-    → checked (cs ++ ds) refused given ≡ checked cs refused (checked ds refused given)
-in-two [] ds refused given = refl
-in-two {A} (c ∷ cs) ds refused given =
-    ap (λ (r : A). cond (c .fails) (refused (number (c .code))) r) (in-two cs ds refused given)
-
 -- where the code is not 0, any answer that begins with them is refused with it
 pub stops : {A : Type 0} (cs : List Check) (n : ℕ) → CodeOf cs n → (n ≡ 0 → ⊥) → (refused : ℕ → A) (given : A)
     → checked cs refused given ≡ refused n

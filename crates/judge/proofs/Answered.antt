@@ -2,17 +2,15 @@
 -- Assumes nothing.
 use mathlib.Core.Path.{_≡_, refl, sym, ap, _∙_}
 use mathlib.Core.Logic.{_⊎_}
-use mathlib.Core.List.{[], _∷_, _++_}
+use mathlib.Core.List.{[], _∷_}
 use Prim.Native.Nat.{ℕ, _≤_}
 use native.Mathlib.Omega.{arith}
-use lib.Dec.{T}
-use lib.Ieee.{Float}
 use Rattle.grid.specs.Grid.{depths, N-units}
-use Rattle.grid.specs.Codes.{Passed, bad-n, depth-check, n-check}
-use Rattle.grid.proofs.FirstCode.{coded, split, join}
+use Rattle.grid.specs.Codes.{Passed, bad-n, n-check}
+use Rattle.grid.proofs.FirstCode.{split}
 use Rattle.grid.proofs.Refuses.{Makes, makes}
 use Rattle.grid.proofs.Fits.{limit-fits, depth-passes}
-use Rattle.orbit.specs.Given.{Given, grid, doubles, checksOf, cellOf, problemChecks}
+use Rattle.orbit.specs.Given.{cellOf, problemChecks}
 use Rattle.orbit.proofs.Posed.{problem-in}
 use Rattle.units.specs.Units.{estimate-check}
 use Rattle.units.proofs.Rounding.{estimate-fits}
@@ -25,13 +23,9 @@ use Rattle.judge.specs.declared.Verdict.{Verdict}
 use Rattle.judge.specs.declared.Verdict.the-variants.{Confirmed, Refuted, Undecided}
 use Rattle.judge.proofs.Kept.{is-confirmed, is-refuted, confirmed-exact, refuted-exact, confirmed-kept, refuted-kept}
 
-claim-coded : (g : Given) (d : ℕ) (x : Float) (n : ℕ) → T (coded (problemChecks g d ++ estimate-check x ∷ n-check n ∷ []))
-claim-coded (grid m a) d x n = tt
-claim-coded (doubles m e) d x n = tt
-
 module _ (k : Claim) where
   pub claims : Makes (claimChecks k) (λ (j : Judged). j .code) unjudged (verdict (caseVerdict (caseAt k)))
-  claims = makes refl (λ n. refl) (claim-coded (k .given) (k .depth) (estimateOf k) (k .n))
+  claims = makes refl (λ n. refl) tt
 
   -- a claim whose checks pass is within every limit
   pub case-in : Passed (claimChecks k) → CaseIn (caseAt k)
@@ -94,9 +88,7 @@ module _ (k : Claim) where
     deeper-passed : Passed (claimChecks k) → Passed (claimChecks (atDepth k e))
     deeper-passed p =
         let some = case-in k p .problem .depth .some in
-        let (posed, rest) = split (problemChecks (k .given) (k .depth)) _ p in
-        let (cell, depth) = split (checksOf (k .given)) (depth-check (k .depth) ∷ []) posed in
-        join (problemChecks (k .given) e) _ (join (checksOf (k .given)) (depth-check e ∷ []) cell (depth-passes e (omega arith) few, tt)) rest
+        (p .0, (p .1 .0, (depth-passes e (omega arith) few, p .1 .1 .1)))
 
     -- a verdict Confirmed or Refuted is the verdict at every greater depth
     pub confirmed-at : judgeRule k ≡ verdict Confirmed → judgeRule (atDepth k e) ≡ verdict Confirmed

@@ -1,16 +1,11 @@
 -- What the judge can answer: a code from 1 to 5 and no verdict, or one of the three verdicts. Assumes nothing.
-use Prim.Native.Nat.{ℕ, _≤_, _<_}
+use Prim.Native.Nat.{_≤_, _<_}
 use native.Mathlib.Omega.{arith}
 use borrow.Author.Tests.{ltb-true}
-use mathlib.Core.List.{[], _∷_, _++_}
-use lib.Ieee.{Float}
 use Rattle.grid.specs.Grid.{N-units}
-use Rattle.grid.specs.Codes.{checked, n-check}
 use Rattle.grid.proofs.Outcomes.{of-checked}
-use Rattle.orbit.specs.Given.{Given, grid, doubles, problemChecks}
-use Rattle.units.specs.Units.{estimate-check}
 use Rattle.judge.specs.Verdict.{verdictNumber}
-use Rattle.judge.specs.Judge.{Claim, estimateOf, caseAt, caseVerdict, verdict, unjudged, judgeRule}
+use Rattle.judge.specs.Judge.{Claim, claimChecks, caseAt, caseVerdict, verdict, unjudged, judgeRule}
 use Rattle.judge.specs.declared.Judged.{Judged}
 use Rattle.judge.specs.declared.Verdict.{Verdict}
 use Rattle.judge.specs.declared.Verdict.the-variants.{Confirmed, Refuted, Undecided}
@@ -18,18 +13,12 @@ use Rattle.judge.specs.declared.Verdict.the-variants.{Confirmed, Refuted
 -- what holds of each holds of the judge's answer; code 5 is given only for a tolerance above its limit
 module _ (P : Judged → Type 0) (m : P (unjudged 1)) (a : P (unjudged 2)) (depth : P (unjudged 3)) (estimate : P (unjudged 4))
     (v : (v : Verdict) → P (verdict v)) where
-  by-given : (g : Given) (d : ℕ) (x : Float) (n : ℕ) (w : Verdict) → (N-units < n → P (unjudged 5))
-      → P (checked (problemChecks g d ++ estimate-check x ∷ n-check n ∷ []) unjudged (verdict w))
-  by-given (grid mean shape) d x n w tolerance =
-      of-checked P unjudged (verdict w) (problemChecks (grid mean shape) d ++ estimate-check x ∷ n-check n ∷ [])
-      (λ t. m, (λ t. a, (λ t. depth, (λ t. estimate, (λ t. tolerance (ltb-true _ _ t), tt))))) (λ p. v w)
-  by-given (doubles mean ratio) d x n w tolerance =
-      of-checked P unjudged (verdict w) (problemChecks (doubles mean ratio) d ++ estimate-check x ∷ n-check n ∷ [])
-      (λ t. m, (λ t. a, (λ t. depth, (λ t. estimate, (λ t. tolerance (ltb-true _ _ t), tt))))) (λ p. v w)
-
   pub of-judged : (c : Claim) → (N-units < c .n → P (unjudged 5)) → P (judgeRule c)
   unfolding judgeRule
-  of-judged c = by-given (c .given) (c .depth) (estimateOf c) (c .n) (caseVerdict (caseAt c))
+  of-judged c tolerance =
+      let w = caseVerdict (caseAt c) in
+      of-checked P unjudged (verdict w) (claimChecks c)
+      (λ t. m, (λ t. a, (λ t. depth, (λ t. estimate, (λ t. tolerance (ltb-true _ _ t), tt))))) (λ p. v w)
 
 verdict-small : (v : Verdict) → verdictNumber v ≤ 18
 verdict-small Confirmed = omega arith

@@ -1,16 +1,15 @@
 -- What the checked constructors of a cell and of a problem answer: their codes, and with code 0 what was given, within its
 -- limits. Assumes nothing.
-use mathlib.Core.Path.{_≡_, refl, ap, subst, sym, _∙_}
+use mathlib.Core.Path.{_≡_, refl}
 use mathlib.Core.List.{[], _∷_}
 use Prim.Native.Nat.{ℕ}
 use native.Mathlib.Omega.{arith}
-use lib.Dec.{T}
 use lib.IntN.{natAbs}
 use lib.Ieee.Positive.{den, den-pos}
 use Rattle.whole.proofs.Round.{down-le-up}
 use Rattle.grid.specs.Grid.{one, H-units}
 use Rattle.grid.specs.Codes.{bad-m, bad-a, Passed, depth-check}
-use Rattle.grid.proofs.FirstCode.{coded, split}
+use Rattle.grid.proofs.FirstCode.{split}
 use Rattle.grid.proofs.Refuses.{Makes, makes}
 use Rattle.grid.proofs.Fits.{limit-fits, depth-fits}
 use Rattle.units.specs.Units.{product}
@@ -20,21 +19,13 @@ use Rattle.orbit.specs.Given.{Given, grid, doubles, sizeOf, checksOf, mi
 use Rattle.orbit.specs.declared.CodedCell.{CodedCell}
 use Rattle.orbit.specs.declared.CodedProblem.{CodedProblem}
 
-pub checks-coded : (g : Given) → T (coded (checksOf g))
-checks-coded (grid m a) = tt
-checks-coded (doubles m e) = tt
-
-pub problem-coded : (g : Given) (d : ℕ) → T (coded (problemChecks g d))
-problem-coded (grid m a) d = tt
-problem-coded (doubles m e) d = tt
-
 pub cells : (g : Given)
     → Makes (checksOf g) (λ (r : CodedCell). r .code) noCell (cellWith 0 (mirroredOf g) (cellOf g))
-cells g = makes refl (λ k. refl) (checks-coded g)
+cells g = makes refl (λ k. refl) tt
 
 pub problems : (g : Given) (d : ℕ)
     → Makes (problemChecks g d) (λ (r : CodedProblem). r .code) noProblem (problemWith 0 (mirroredOf g) (problemAt (cellOf g) d))
-problems g d = makes refl (λ k. refl) (problem-coded g d)
+problems g d = makes refl (λ k. refl) tt
 
 pub cell-in : (g : Given) → Passed (checksOf g) → CellIn (cellOf g)
 cell-in (grid m a) p =

@@ -11,7 +11,7 @@ use Rattle.whole.specs.Sign.{negative}
 use Rattle.grid.specs.Grid.{one, H-units}
 use Rattle.grid.specs.Codes.{Check, number, done, bad-m, bad-a, checked, m-check, a-check, depth-check}
 use Rattle.grid.specs.Limits.{DepthIn}
-use Rattle.units.specs.Units.{mirrorDouble, belowZero, product, floorAndCeiling, range-check}
+use Rattle.units.specs.Units.{mirrorDouble, belowZero, product, floorAndCeiling, offRange}
 use Rattle.orbit.specs.Mirror.{mirror}
 use Rattle.orbit.specs.Cell.{Exact, InCell, gridCell, spanOf, CellIn}
 use Rattle.orbit.specs.declared.Cell.{Cell}
@@ -28,10 +28,18 @@ pub data Given : Type 0 where
 abbrev pub sizeOf : Float → Float
 sizeOf m = mirrorDouble (belowZero m) m
 
+-- R5: whether M is beyond its limits, and whether A is
+abbrev pub badM : Given → Bool
+badM (grid m a) = m-check m .fails
+badM (doubles m e) = offRange H-units (sizeOf m)
+
+abbrev pub badA : Given → Bool
+badA (grid m a) = a-check a .fails
+badA (doubles m e) = offRange one e
+
 -- R4, R5: the checks of M and A, codes 1 and 2: M is no angle, and its code is not 10
 abbrev pub checksOf : Given → List Check
-checksOf (grid m a) = m-check m ∷ a-check a ∷ []
-checksOf (doubles m e) = range-check (sizeOf m) H-units bad-m ∷ range-check e one bad-a ∷ []
+checksOf g = record { fails = badM g; code = bad-m } ∷ record { fails = badA g; code = bad-a } ∷ []
 
 -- R59: whether it is mirrored, as a negative M is
 abbrev pub mirroredOf : Given → Bool

@@ -16,7 +16,7 @@ use Rattle.grid.proofs.Made.{signed-angles}
 use Rattle.grid.proofs.Fits.{signed-fits}
 use Rattle.orbit.specs.Mirror.{mirror}
 use Rattle.orbit.specs.Given.{Given, mirroredOf, cellOf, codedProblem, problemChecks, problemAt, problemWith}
-use Rattle.orbit.proofs.Posed.{problem-coded, problems}
+use Rattle.orbit.proofs.Posed.{problems}
 use Rattle.ends.specs.Entry.{endChecks, flagged}
 use Rattle.ends.proofs.Answered.{ends}
 use Rattle.ends.proofs.end_test.Statement.{statement}
@@ -49,7 +49,7 @@ module _ (c : tie.After-earlier) (g : Given) (d : ℕ) (e : c .before .before .b
   said : Says (endChecks (c .before .before .before .args .x) g d) (c .earlier .result) Known
   said =
       let s = problems g d .says _ e in
-      then (problem-coded g d) s (λ z. rw (s .made z) at (made (c .before))) _ (c .earlier .ensures)
+      then tt s (λ z. rw (s .made z) at (made (c .before))) _ (c .earlier .ensures)
 
 returns : tie.Need-returns
 returns c g d e =

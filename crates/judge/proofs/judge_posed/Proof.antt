@@ -12,7 +12,7 @@ use Rattle.grid.proofs.Refuses.{Says, limits, then}
 use Rattle.grid.proofs.Fits.{limit-fits}
 use Rattle.orbit.specs.Given.{Given, codedProblem}
 use Rattle.orbit.specs.declared.CodedProblem.{CodedProblem}
-use Rattle.orbit.proofs.Posed.{problems, problem-coded}
+use Rattle.orbit.proofs.Posed.{problems}
 use Rattle.units.specs.Units.{mirrorDouble, estimate-check, floorAndCeiling, unitsWith}
 use Rattle.units.proofs.Made.{estimates}
 use Rattle.units.proofs.Rounding.{estimate-fits}
@@ -53,7 +53,7 @@ module _ (c : tie.After-earlier2) (g : Given) (d : ℕ) (e : start c .args .pose
   said : Says (claimChecks claim) (c .earlier2 .result) (case c ≡ caseAt claim)
   said =
       let s = problems g d .says _ e in
-      let all = then (problem-coded g d) s (λ z. rest c (estimateOf claim) (ap (λ (p : CodedProblem). mirrorDouble (p .mirrored) (claim .estimate)) (s .made z))) _ (c .earlier2 .ensures) in
+      let all = then tt s (λ z. rest c (estimateOf claim) (ap (λ (p : CodedProblem). mirrorDouble (p .mirrored) (claim .estimate)) (s .made z))) _ (c .earlier2 .ensures) in
       record { code-is = all .code-is; made = λ z. let w = all .made z in simp (w .0, w .1 .0) }
 
 returns : tie.Need-returns

@@ -5,7 +5,7 @@ use Rattle.grid.specs.Make.{depthWith}
 use Rattle.grid.proofs.Refuses.{Says, then}
 use Rattle.grid.proofs.Made.{depths-made}
 use Rattle.orbit.specs.Given.{Given, mirroredOf, cellOf, cellWith, codedCell, problemChecks}
-use Rattle.orbit.proofs.Posed.{checks-coded, cells, problems}
+use Rattle.orbit.proofs.Posed.{cells, problems}
 use Rattle.orbit.proofs.Problem.at_depth.Statement.{statement}
 use Rattle.orbit.proofs.Problem.at_depth.Tie as tie
 
@@ -15,7 +15,7 @@ said : (c : tie.After-earlier) (g : Given)
     → Says (problemChecks g (a .depth)) (c .earlier .result)
     ((a .posed ≡ cellWith 0 (mirroredOf g) (cellOf g)) × (c .before .new .result ≡ depthWith 0 (a .depth)))
 said c g e =
-    then (checks-coded g) (cells g .says _ e) (λ z. depths-made (c .before .before .args .depth) .says _ (c .before .new .ensures)) _ (c .earlier .ensures)
+    then tt (cells g .says _ e) (λ z. depths-made (c .before .before .args .depth) .says _ (c .before .new .ensures)) _ (c .earlier .ensures)
 
 returns : tie.Need-returns
 returns c g e =
