@@ -1,4 +1,5 @@
 -- The test of a cell is the grid's test at both corners, and a better bound accepts no less. Assumes nothing.
+use mathlib.Core.Path.{_≡_}
 use mathlib.Core.Bool.{Bool, true, false}
 use mathlib.Core.Logic.{_↔_}
 use Prim.Native.Nat.{ℕ, _≤_, _*_}
@@ -7,11 +8,12 @@ use native.Mathlib.Nat.{mul-le-mul-left}
 use lib.Dec.{T}
 use lib.IntN.{ℤ, pos, _-ℤ_, _*ℤ_}
 use lib.Signed.{_≤ℤ_}
+use Rattle.whole.proofs.Bools.{alike}
 use Rattle.whole.proofs.Parts.{plus, minus, own}
 use Rattle.whole.proofs.Order.{le-parts, le-lesser, greater-le}
 use Rattle.grid.specs.Grid.{one}
 use Rattle.series.proofs.Deeper.{Lo-rises, Hi-falls}
-use Rattle.orbit.specs.Cell.{Orbit, orbitAt}
+use Rattle.orbit.specs.Cell.{Orbit, orbitAt, gridCell}
 use Rattle.orbit.specs.declared.Cell.{Cell}
 use Rattle.ends.specs.Ends.{belowAt, aboveAt, belowBy, aboveBy, endBy, boundOf, endAt}
 use Rattle.ends.proofs.BothEnds as ends
@@ -27,6 +29,17 @@ module _ (c : Cell) (X : ℕ) (b : ℤ) where
       ↔ T (aboveAt (orbitAt (c .m .up) (c .a .down)) X b) × T (aboveAt (orbitAt (c .m .up) (c .a .up)) X b)
   unfolding aboveBy aboveAt
   above-corners = greater-le (pos (c .a .down) *ℤ b) (pos (c .a .up) *ℤ b) (pos one *ℤ (pos X -ℤ pos (c .m .up)))
+
+-- on the grid both corners are one
+pub below-grid : (m a X : ℕ) (b : ℤ) → belowBy (gridCell m a) X b ≡ belowAt (orbitAt m a) X b
+below-grid m a X b =
+    let (there, back) = below-corners (gridCell m a) X b in
+    alike (belowBy (gridCell m a) X b) (belowAt (orbitAt m a) X b) (λ t. there t .0) (λ t. back (t, t))
+
+pub above-grid : (m a X : ℕ) (b : ℤ) → aboveBy (gridCell m a) X b ≡ aboveAt (orbitAt m a) X b
+above-grid m a X b =
+    let (there, back) = above-corners (gridCell m a) X b in
+    alike (aboveBy (gridCell m a) X b) (aboveAt (orbitAt m a) X b) (λ t. there t .0) (λ t. back (t, t))
 
 -- z is no worse than y as the bound of an upper end's test, or of a lower end's
 abbrev pub NoWorse : Bool → ℤ → ℤ → Type 0

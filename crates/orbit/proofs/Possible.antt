@@ -1,18 +1,18 @@
 -- What is given is itself possible: M and A of the grid, and the values that two doubles are, lie in their cell. Assumes nothing.
 use mathlib.Core.Path.{_≡_, refl}
 use mathlib.Core.Bool.{Bool, true, false, true≢false}
-use Prim.Native.Nat.{ℕ, zero, suc, _+_, _*_, _≤_}
+use Prim.Native.Nat.{ℕ, zero, suc, _*_, _≤_}
 use native.Mathlib.Omega.{arith}
 use borrow.Author.Tests.{lt-ltb}
 use native.Mathlib.Nat.{zero-lt-suc}
-use lib.IntN.{ℤ, pos, negsuc, natAbs}
+use lib.IntN.{pos}
 use lib.Signed.{_≤ℤ_}
 use lib.Ieee.{Float, nan, inf, fin, neg, up, down}
 use lib.Ieee.Positive.{den, den-pos}
-use Rattle.whole.specs.Sign.{negative}
 use Rattle.whole.proofs.Parts.{shift, is-pos, is-neg, is-mul}
 use Rattle.whole.proofs.Order.{le-parts, one-number}
 use Rattle.whole.proofs.Round.{down-le, le-up}
+use Rattle.whole.proofs.CodeRoom.{sized}
 use Rattle.grid.specs.Grid.{one, H-units}
 use Rattle.grid.specs.Codes.{Passed}
 use Rattle.units.specs.Units.{mirrorDouble, belowZero, product, offRange}
@@ -28,11 +28,6 @@ back true (suc X) = refl
 
 pub pos-le : {a b : ℕ} → a ≤ b → pos a ≤ℤ pos b
 pos-le {a} {b} h = le-parts (is-pos a) (is-pos b) .1 (omega arith)
-
--- the mirror of a negative number is its size
-size-is : (m : ℤ) → mirror (negative m) m ≡ pos (natAbs m)
-size-is (pos n) = refl
-size-is (negsuc n) = refl
 
 -- a double and its mirror have one size
 same-product : (t : Bool) (x : Float) → product (mirrorDouble t x) ≡ product x
@@ -54,8 +49,8 @@ own-possible (grid m a) =
     record {
       over-q = omega arith;
       over-s = omega arith;
-      m-least = rw (size-is m) (pos-le (omega arith));
-      m-most = rw (size-is m) (pos-le (omega arith));
+      m-least = rw (sized m) (pos-le (omega arith));
+      m-most = rw (sized m) (pos-le (omega arith));
       a-least = omega arith;
       a-most = omega arith;
     }

@@ -9,16 +9,17 @@ use lib.Dec.{T, ltb, eqb, ltb→lt, lt→ltb}
 use lib.IntN.{ℤ, pos, negsuc, natAbs}
 use lib.Ieee.{Float, nan, inf, fin, neg}
 use lib.Ieee.Positive.{den}
-use Rattle.grid.specs.Grid.{T-units}
+use Rattle.grid.specs.Grid.{one, H-units, T-units}
 use Rattle.whole.specs.Sign.{negative}
 use Rattle.whole.proofs.CodeRoom.{size-sign}
 use Rattle.grid.specs.Codes.{or, signed-x-check}
 use Rattle.orbit.specs.Mirror.{mirror}
 use Rattle.ends.specs.Ends.{upperEnd}
-use Rattle.units.specs.Units.{mirrorDouble, product, offRange, estimate-check}
+use Rattle.orbit.specs.Given.{Given, grid, doubles, badM, badA}
+use Rattle.units.specs.Units.{mirrorDouble, belowZero, product, offRange}
 use Rattle.little.proofs.Digits.{one-byte}
 use Rattle.claims.specs.Form.{twenty}
-use Rattle.promises.specs.Conditions.{Opposes, OffRange, Exactly, Conditions}
+use Rattle.promises.specs.Conditions.{Opposes, Oversize, HasSign, BeyondM, BeyondA, Exactly, Conditions}
 
 less : (a b : ℕ) → ltb a b ≡ true ↔ a < b
 less a b = (ltb-true a b, lt-ltb a b)
@@ -44,20 +45,38 @@ flipped : (s : Bool) → not s ≡ true ↔ s ≡ false
 flipped true = (λ e. sym e, λ e. sym e)
 flipped false = (λ e. refl, λ e. refl)
 
-by-size : (s : Bool) (m : ℕ) (e : ℤ) {P : Type 0} → (s ≡ true ↔ P)
-    → or (s && ltb 0 m) (ltb (T-units * den (fin s m e)) (product (fin s m e))) ≡ true
-    ↔ (P × (0 < m)) ⊎ (T-units * den (fin s m e) < product (fin s m e))
-by-size s m e p =
-    either (s && ltb 0 m) (ltb (T-units * den (fin s m e)) (product (fin s m e))) (both s (ltb 0 m) p (less 0 m)) (less _ _)
+by-size : (limit : ℕ) (s : Bool) (m : ℕ) (e : ℤ) {P : Type 0} → (s ≡ true ↔ P)
+    → or (s && ltb 0 m) (ltb (limit * den (fin s m e)) (product (fin s m e))) ≡ true
+    ↔ (P × (0 < m)) ⊎ (limit * den (fin s m e) < product (fin s m e))
+by-size limit s m e p =
+    either (s && ltb 0 m) (ltb (limit * den (fin s m e)) (product (fin s m e))) (both s (ltb 0 m) p (less 0 m)) (less _ _)
 
-off-range : (mirrored : Bool) (x : Float) → Exactly (estimate-check (mirrorDouble mirrored x)) (OffRange mirrored x)
+off-range : (limit : ℕ) (mirrored : Bool) (x : Float) → offRange limit (mirrorDouble mirrored x) ≡ true ↔ HasSign (not mirrored) x ⊎ Oversize limit x
 unfolding offRange neg
-off-range false nan = (λ e. tt, λ h. refl)
-off-range false (inf s) = (λ e. tt, λ h. refl)
-off-range false (fin s m e) = by-size s m e (λ p. p, λ p. p)
-off-range true nan = (λ e. tt, λ h. refl)
-off-range true (inf s) = (λ e. tt, λ h. refl)
-off-range true (fin s m e) = by-size (not s) m e (flipped s)
+off-range limit false nan = (λ e. inr tt, λ h. refl)
+off-range limit false (inf s) = (λ e. inr tt, λ h. refl)
+off-range limit false (fin s m e) = by-size limit s m e (λ p. p, λ p. p)
+off-range limit true nan = (λ e. inr tt, λ h. refl)
+off-range limit true (inf s) = (λ e. inr tt, λ h. refl)
+off-range limit true (fin s m e) = by-size limit (not s) m e (flipped s)
+
+-- a double without its sign
+oversize : (limit : ℕ) (x : Float) → offRange limit (mirrorDouble (belowZero x) x) ≡ true ↔ Oversize limit x
+unfolding offRange belowZero neg
+oversize limit nan = (λ e. tt, λ h. refl)
+oversize limit (inf true) = (λ e. tt, λ h. refl)
+oversize limit (inf false) = (λ e. tt, λ h. refl)
+oversize limit (fin false m e) = less _ _
+oversize limit (fin true zero e) = less _ _
+oversize limit (fin true (suc m) e) = rw (lt-ltb 0 (suc m) (omega arith)) (less _ _)
+
+beyond-m : (g : Given) → badM g ≡ true ↔ BeyondM g
+beyond-m (grid m a) = less _ _
+beyond-m (doubles m e) = oversize H-units m
+
+beyond-a : (g : Given) → badA g ≡ true ↔ BeyondA g
+beyond-a (grid m a) = less _ _
+beyond-a (doubles m e) = off-range one false e
 
 -- ---- the tested angle, mirrored with M
 
@@ -76,10 +95,11 @@ tested mirrored x =
 pub conditions : Conditions
 conditions =
     record {
-      m = λ m. less _ _;
-      a = λ a. less _ _;
+      m = beyond-m;
+      a = beyond-a;
+      eccentricity = λ a. less _ _;
       depth = λ d. either _ _ (less d 1) (less 5 d);
-      estimate = off-range;
+      estimate = off-range T-units;
       n = λ n. less _ _;
       top = λ c d. fails (upperEnd c d T-units);
       bad-length = λ bytes. differ _ _;

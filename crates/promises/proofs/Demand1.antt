@@ -15,7 +15,7 @@ use Rattle.series.specs.Entry.{sineChecks, sineRule}
 use Rattle.series.proofs.SineRefuses.{sines}
 use Rattle.units.specs.Units.{estimate-check}
 use Rattle.units.proofs.Made.{estimates}
-use Rattle.orbit.specs.Given.{Given, grid, checksOf, problemChecks}
+use Rattle.orbit.specs.Given.{Given, checksOf, problemChecks}
 use Rattle.orbit.proofs.Posed.{cells, problems}
 use Rattle.ends.proofs.Answered.{ends}
 use Rattle.enclosure.specs.Enclosure.{enclosureChecks}
@@ -54,7 +54,7 @@ in-order : (x a d n i : ℕ) (z : ℤ) (g : Given) (f : Float) (claims answers :
     ∷ claimChecks (record { given = g; estimate = f; n = n; depth = d }) ∷ batchChecks twenty (length claims) (length answers)
     ∷ recordChecks twenty claims i ∷ (x-check x ∷ []) ∷ (signed-x-check z ∷ []) ∷ (a-check a ∷ []) ∷ (depth-check d ∷ []) ∷ (estimate-check f ∷ []) ∷ []))
 unfolding order
-in-order x a d n i z (grid m b) f claims answers = tt
+in-order x a d n i z g f claims answers = tt
 
 pub demand-1 : Demand1
 unfolding sineRule proposalRule judgeRule batchRule order

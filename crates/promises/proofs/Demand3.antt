@@ -16,6 +16,7 @@ use Rattle.orbit.specs.Mirror.{mirror, mirrorEnd}
 use Rattle.orbit.specs.Cell.{CellIn}
 use Rattle.orbit.specs.Given.{Given, mirroredOf, cellOf}
 use Rattle.orbit.specs.declared.Cell.{Cell}
+use Rattle.orbit.proofs.Possible.{pos-le}
 use Rattle.ends.specs.Ends.{endAt}
 use Rattle.ends.specs.Entry.{flagged, lowerRule, upperRule}
 use Rattle.ends.proofs.Apart.{apart}
@@ -33,7 +34,7 @@ use Rattle.claims.specs.Record.{reserved-check, claimAt, answerAt}
 use Rattle.claims.proofs.AnswerBytes.{byteOf, byte-is}
 use Rattle.promises.specs.Demand3.{Settled, Again, Demand3}
 use Rattle.promises.proofs.Bytes.{byte-judged}
-use Rattle.promises.proofs.Mirror.{pos-le, neg-le, inside}
+use Rattle.promises.proofs.Mirror.{neg-le, inside}
 use Rattle.promises.proofs.Ends.{accepted-says}
 
 two-verdicts : (r : Judged) → r ≡ verdict Confirmed → r ≡ verdict Refuted → ⊥

@@ -12,7 +12,7 @@ use Rattle.grid.specs.Grid.{T-units, depths}
 use Rattle.grid.specs.Codes.{Passed, signed-x-check}
 use Rattle.grid.proofs.FirstCode.{split, join}
 use Rattle.orbit.specs.Mirror.{mirror, mirrorEnd}
-use Rattle.orbit.specs.Given.{Given, grid, mirroredOf, cellOf, exactOf, problemChecks, problemAt, ProblemIn}
+use Rattle.orbit.specs.Given.{Given, grid, mirroredOf, cellOf, problemChecks, problemAt, ProblemIn}
 use Rattle.orbit.proofs.Posed.{problem-in}
 use Rattle.ends.specs.Ends.{endAt}
 use Rattle.ends.specs.Entry.{flagged, endOf, endRule}
@@ -64,25 +64,25 @@ module _ (upper : Bool) (X : ℤ) (g : Given) (d : ℕ) where
   accepts p s t = answered p s ∙ ap flagged (sym (test.passes (endOf upper g d X) t))
 
   -- R19
-  pub exact-says : endRule upper X g d ≡ flagged true → EndExact upper (exactOf g) X
+  pub exact-says : endRule upper X g d ≡ flagged true → EndExact upper g X
   exact-says e =
       let (f, t) = accepted-says e in
       let s = f .side in
-      subst (EndExact upper (exactOf g)) (sym (s .sign))
-      (subst (λ (u : Bool). EndExact u (exactOf g) (mirror (mirroredOf g) (pos (natAbs X)))) (twice (mirroredOf g) upper)
+      subst (EndExact upper g) (sym (s .sign))
+      (subst (λ (u : Bool). EndExact u g (mirror (mirroredOf g) (pos (natAbs X)))) (twice (mirroredOf g) upper)
       (end-true (mirrorEnd (mirroredOf g) upper) g (natAbs X) (s .angle) d (f .problem .depth .few) t))
 
 -- R20, on the grid
 pub spare-says : (upper : Bool) (X m : ℤ) (a : ℕ) → endRule upper X (grid m a) depths ≡ flagged false
-    → EndSpare upper (exactOf (grid m a)) X → ⊥
+    → EndSpare upper (grid m a) X → ⊥
 spare-says upper X m a e h =
     let g = grid m a in
     let (f, n) = declined-says upper X g depths e in
     let s = f .side in
     n
     (spare-accepted (mirrorEnd (mirroredOf g) upper) m a (natAbs X) (s .angle)
-    (subst (λ (u : Bool). EndSpare u (exactOf g) (mirror (mirroredOf g) (pos (natAbs X)))) (sym (twice (mirroredOf g) upper))
-    (subst (EndSpare upper (exactOf g)) (s .sign) h)))
+    (subst (λ (u : Bool). EndSpare u g (mirror (mirroredOf g) (pos (natAbs X)))) (sym (twice (mirroredOf g) upper))
+    (subst (EndSpare upper g) (s .sign) h)))
 
 -- ---- an end of the problem that was posed, mirrored back
 

@@ -33,7 +33,8 @@ use Rattle.judge.specs.Judge.{judgeRule}
 use Rattle.units.specs.Units.{offRange, unitsWith, codedEstimate}
 use Rattle.units.proofs.Rounding.{made-exact, made-rounded}
 use Rattle.claim_file.proofs.Output as program
-use Rattle.promises.specs.Further.{exchanged, claim, Sums, Ends, Searches, Proposals, Estimates, Mirrored, Further}
+use Rattle.promises.specs.Further.{Sums, Ends, Searches, Proposals, Estimates, Further}
+use Rattle.promises.proofs.Alike.{mirrored, doubles-met}
 use Rattle.promises.proofs.Mirror.{at-0}
 use Rattle.promises.proofs.Ends.{accepted-says, accepts, accepts-at, declines-at}
 
@@ -65,6 +66,8 @@ end-laws =
     record {
       lower-corners = tests.below-corners;
       upper-corners = tests.above-corners;
+      lower-grid = tests.below-grid;
+      upper-grid = tests.above-grid;
       lower-deeper = deeper false;
       upper-deeper = deeper true;
       zero-always = λ g d p.
@@ -113,34 +116,6 @@ estimates =
       minus-zero = minus-zero;
     }
 
--- ---- the mirror
-
--- a function of an answer by checks that leaves refusals alone
-enclose-mirrored : (m a d : ℕ) → enclosureRule (grid (negsuc m) a) d ≡ exchanged (enclosureRule (grid (pos (suc m)) a) d)
-enclose-mirrored m a d =
-    let g = grid (pos (suc m)) a in
-    sym (through exchanged refusal (enclosed false (cellOf g) d) (enclosureChecks g d))
-
-propose-mirrored : (m a : ℕ) → proposalRule (grid (negsuc m) a) ≡ mirrorProposal true (proposalRule (grid (pos (suc m)) a))
-unfolding proposalRule
-propose-mirrored m a =
-    let g = grid (pos (suc m)) a in
-    sym (through (mirrorProposal true) proposalRefused (mirrorProposal false (proposed (cellOf g))) (checksOf g))
-
-judge-mirrored : (m a : ℕ) (x : Float) (n d : ℕ)
-    → judgeRule (claim (grid (negsuc m) a) x n d) ≡ judgeRule (claim (grid (pos (suc m)) a) (neg x) n d)
-unfolding judgeRule
-judge-mirrored m a x n d = refl
-
-mirrored : Mirrored
-mirrored =
-    record {
-      ends = λ upper x m a d. rw (size-sign false x);
-      enclose = enclose-mirrored;
-      propose = propose-mirrored;
-      judge = judge-mirrored;
-    }
-
 pub further : Further
 further =
     record {
@@ -150,5 +125,6 @@ further =
       proposals = proposals;
       estimates = estimates;
       mirrored = mirrored;
+      doubles = doubles-met;
       program = record { complete = program.complete; longer = program.longer; cut = program.cut };
     }

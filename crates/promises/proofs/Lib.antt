@@ -6,6 +6,7 @@ pub mod Ends
 pub mod Bytes
 pub mod Demand2
 pub mod Demand3
+pub mod Alike
 pub mod Further
 pub mod Starred
 pub mod Unique

@@ -15,16 +15,12 @@ use Rattle.grid.specs.Grid.{T-units}
 use Rattle.grid.specs.Codes.{signed-x-check}
 use Rattle.grid.proofs.Fits.{signed-fits}
 use Rattle.orbit.specs.Mirror.{mirror, mirrorEnd}
+use Rattle.orbit.proofs.Possible.{back, pos-le}
 use Rattle.enclosure.specs.Enclosure.{mirrorEnds}
 use Rattle.promises.specs.Demand2.{inward}
 use Rattle.promises.specs.Demand3.{Within}
 
 -- ---- numbers
-
-pub back : (mirrored : Bool) (X : ℕ) → mirror mirrored (mirror mirrored (pos X)) ≡ pos X
-back false X = refl
-back true zero = refl
-back true (suc X) = refl
 
 pub at-0 : (mirrored : Bool) → mirror mirrored (pos 0) ≡ pos 0
 at-0 false = refl
@@ -58,9 +54,6 @@ side-checks mirrored X s =
     ap (λ (z : ℤ). signed-x-check z .fails) (ap (mirror mirrored) (s .sign) ∙ back mirrored (natAbs X)) ∙ le-ltb T-units (natAbs X) (s .angle)
 
 -- ---- order
-
-pub pos-le : {a b : ℕ} → a ≤ b → pos a ≤ℤ pos b
-pos-le {a} {b} h = le-parts (is-pos a) (is-pos b) .1 (omega arith)
 
 pub neg-le : {a b : ℕ} → a ≤ b → negℤ (pos b) ≤ℤ negℤ (pos a)
 neg-le {a} {b} h = le-parts (is-neg (is-pos b)) (is-neg (is-pos a)) .1 (omega arith)

@@ -11,8 +11,9 @@ use lib.Ieee.{Float, nan, inf, fin}
 use lib.Ieee.Positive.{den}
 use lib.ListN.{getD}
 use Rattle.grid.specs.Grid.{one, H-units, T-units, depths, N-units}
-use Rattle.grid.specs.Codes.{Check, m-check, a-check, depth-check, x-check, signed-x-check, n-check}
+use Rattle.grid.specs.Codes.{Check, a-check, depth-check, x-check, signed-x-check, n-check}
 use Rattle.orbit.specs.Mirror.{mirror}
+use Rattle.orbit.specs.Given.{Given, grid, doubles, badM, badA}
 use Rattle.orbit.specs.declared.Cell.{Cell}
 use Rattle.ends.specs.Ends.{upperEnd}
 use Rattle.enclosure.specs.Enclosure.{T-check}
@@ -26,27 +27,43 @@ abbrev pub Opposes : Bool → ℤ → Type 0
 Opposes false x = x <ℤ pos 0
 Opposes true x = pos 0 <ℤ x
 
--- R5: code 4, a NaN, infinite, of the other sign than M and not zero, or above T units in size, which is product / den units; s is
--- `true` for a minus sign
-abbrev pub OffRange : Bool → Float → Type 0
-OffRange mirrored nan = Unit {0}
-OffRange mirrored (inf s) = Unit {0}
-OffRange mirrored (fin s m exp) =
-    ((s ≡ not mirrored) × (0 < m)) ⊎ (T-units * den (fin s m exp) < product (fin s m exp))
+-- R5: a NaN, infinite, or above a limit in size, which is product / den units
+abbrev pub Oversize : ℕ → Float → Type 0
+Oversize limit nan = Unit {0}
+Oversize limit (inf s) = Unit {0}
+Oversize limit (fin s m exp) = limit * den (fin s m exp) < product (fin s m exp)
+
+-- R5: with a sign and not zero; s is `true` for a minus sign
+abbrev pub HasSign : Bool → Float → Type 0
+HasSign minus nan = ⊥
+HasSign minus (inf s) = ⊥
+HasSign minus (fin s m exp) = (s ≡ minus) × (0 < m)
+
+-- R5: code 1
+abbrev pub BeyondM : Given → Type 0
+BeyondM (grid m a) = H-units < natAbs m
+BeyondM (doubles m e) = Oversize H-units m
+
+-- R5: code 2: e = 1 is `one` units
+abbrev pub BeyondA : Given → Type 0
+BeyondA (grid m a) = one < a
+BeyondA (doubles m e) = HasSign true e ⊎ Oversize one e
 
 -- R5: a check fails exactly when its condition holds
 abbrev pub Exactly : Check → Type 0 → Type 0
 Exactly c condition = c .fails ≡ true ↔ condition
 
 pub record Conditions : Type 0 where
-  -- code 1, by the size of M
-  pub m : (m : ℤ) → Exactly (m-check m) (H-units < natAbs m)
-  -- code 2
-  pub a : (a : ℕ) → Exactly (a-check a) (one < a)
+  -- code 1
+  pub m : (g : Given) → badM g ≡ true ↔ BeyondM g
+  -- code 2, of what is given and of an eccentricity
+  pub a : (g : Given) → badA g ≡ true ↔ BeyondA g
+  pub eccentricity : (a : ℕ) → Exactly (a-check a) (one < a)
   -- code 3
   pub depth : (d : ℕ) → Exactly (depth-check d) ((d < 1) ⊎ (depths < d))
   -- code 4, of an estimate that is mirrored with M
-  pub estimate : (mirrored : Bool) (x : Float) → Exactly (estimate-check (mirrorDouble mirrored x)) (OffRange mirrored x)
+  pub estimate : (mirrored : Bool) (x : Float)
+      → Exactly (estimate-check (mirrorDouble mirrored x)) (HasSign (not mirrored) x ⊎ Oversize T-units x)
   -- code 5
   pub n : (n : ℕ) → Exactly (n-check n) (N-units < n)
   -- code 6

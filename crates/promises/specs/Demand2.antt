@@ -1,5 +1,5 @@
--- The second demand, over what the entries return: R14, R15, R19, R20, R29, R38 and what verdicts say, for either sign of M.
--- `EndExact` has R19's inequalities in exact fractions.
+-- The second demand, over what the entries return: R14, R15, R19, R20, R29, R38 and what verdicts say, for either sign of M and
+-- whatever was given. `EndExact` has R19's inequalities in exact fractions, of every M and A that what was given leaves possible.
 use mathlib.Core.Path.{_≡_}
 use mathlib.Core.Bool.{Bool, true, false}
 use mathlib.Core.List.{List}
@@ -13,7 +13,7 @@ use Rattle.series.specs.Sine.{S9, S10, den9, den10}
 use Rattle.series.specs.Entry.{sineRule}
 use Rattle.series.specs.declared.SineBounds.{SineBounds}
 use Rattle.orbit.specs.Mirror.{mirror, mirrorEnd}
-use Rattle.orbit.specs.Given.{Given, grid, mirroredOf, cellOf, exactOf}
+use Rattle.orbit.specs.Given.{Given, grid, mirroredOf, cellOf}
 use Rattle.ends.specs.Exact.{EndExact, ExactAt, EndSpare}
 use Rattle.ends.specs.Entry.{flagged, endRule, lowerRule, upperRule}
 use Rattle.enclosure.specs.Enclosure.{enclosureRule}
@@ -43,7 +43,7 @@ inward false X = X +ℤ pos 1
 -- R29: an end that was returned
 pub record EndTrue (upper : Bool) (g : Given) (d : ℕ) (X : ℤ) : Type 0 where
   -- R19: the exact inequality
-  pub exact : EndExact upper (exactOf g) X
+  pub exact : EndExact upper g X
   -- R56: it is accepted
   pub accepted : endRule upper X g d ≡ flagged true
   -- one unit further in is not; an upper end 0 has no such unit, or for a negative M a lower end 0, as it would oppose M
@@ -90,11 +90,11 @@ pub record Demand2 : Type 0 where
   pub width : (x : ℕ) → sineRule x depths .code ≡ number done
       → sineRule x depths .hi ≤ℤ (sineRule x depths .lo +ℤ pos 32)
   -- R19
-  pub lower : (x : ℤ) (g : Given) (d : ℕ) → lowerRule x g d ≡ flagged true → EndExact false (exactOf g) x
-  pub upper : (x : ℤ) (g : Given) (d : ℕ) → upperRule x g d ≡ flagged true → EndExact true (exactOf g) x
+  pub lower : (x : ℤ) (g : Given) (d : ℕ) → lowerRule x g d ≡ flagged true → EndExact false g x
+  pub upper : (x : ℤ) (g : Given) (d : ℕ) → upperRule x g d ≡ flagged true → EndExact true g x
   -- R20, on the grid: not accepted at depth 5, so it has not 32 e units to spare
-  pub lower-spare : (x m : ℤ) (a : ℕ) → lowerRule x (grid m a) depths ≡ flagged false → EndSpare false (exactOf (grid m a)) x → ⊥
-  pub upper-spare : (x m : ℤ) (a : ℕ) → upperRule x (grid m a) depths ≡ flagged false → EndSpare true (exactOf (grid m a)) x → ⊥
+  pub lower-spare : (x m : ℤ) (a : ℕ) → lowerRule x (grid m a) depths ≡ flagged false → EndSpare false (grid m a) x → ⊥
+  pub upper-spare : (x m : ℤ) (a : ℕ) → upperRule x (grid m a) depths ≡ flagged false → EndSpare true (grid m a) x → ⊥
   -- R29: the returned ends
   pub enclose : (g : Given) (d : ℕ) → enclosureRule g d .code ≡ number done → EndsTrue g d (enclosureRule g d)
   -- R38

@@ -1,49 +1,42 @@
--- What the rules promise further, beside the demands: of sums, ends, searches, tables, estimates and the program.
+-- What the rules promise further, beside the demands: of sums, ends, searches, tables, estimates, mirrors, doubles and the program.
 use mathlib.Core.Path.{_≡_}
-use mathlib.Core.Bool.{Bool, true, false, not}
+use mathlib.Core.Bool.{Bool, true, false}
 use mathlib.Core.List.{List, []}
 use mathlib.Core.Logic.{_↔_}
 use Prim.Native.Nat.{ℕ, suc, _+_, _*_, _/_, _%_, _^_, _≤_, _<_}
 use lib.Dec.{T}
-use lib.IntN.{ℤ, pos, negsuc, negℤ, natAbs, _*ℤ_}
+use lib.IntN.{ℤ, pos, negsuc, natAbs, _*ℤ_}
 use lib.Signed.{_≤ℤ_}
-use lib.Ieee.{Float, binary64, ofBits, fits, mul, neg}
+use lib.Ieee.{Float, fin, binary64, ofBits, fits, mul, neg}
 use lib.Ieee.Positive.{den}
 use lib.ListN.{length}
+use Rattle.whole.specs.Sign.{negative}
 use Rattle.grid.specs.Grid.{one, H-units, T-units, depths}
 use Rattle.grid.specs.Codes.{Passed, number, done, no-upper-end}
 use Rattle.series.specs.Exact as exact
 use Rattle.series.specs.Factorial.{factorial}
 use Rattle.series.specs.Sine.{sine, Lo, Hi}
-use Rattle.orbit.specs.Cell.{orbitAt}
+use Rattle.orbit.specs.Cell.{orbitAt, gridCell}
 use Rattle.orbit.specs.Mirror.{mirror, mirrorEnd}
-use Rattle.orbit.specs.Given.{Given, grid, mirroredOf, cellOf, problemChecks}
+use Rattle.orbit.specs.Given.{Given, grid, doubles, mirroredOf, cellOf, exactOf, Possible, checksOf, problemChecks}
 use Rattle.orbit.specs.declared.Cell.{Cell}
 use Rattle.ends.specs.Ends.{belowAt, aboveAt, belowBy, aboveBy}
 use Rattle.ends.specs.Entry.{flagged, endRule, lowerRule, upperRule}
 use Rattle.ends.specs.Exact.{ExactAt}
 use Rattle.enclosure.specs.Halving.{lastBracket}
 use Rattle.enclosure.specs.Enclosure.{enclosureRule}
-use Rattle.enclosure.specs.declared.Enclosure.{Enclosure}
 use Rattle.rotations.specs.Atan.{atan}
 use Rattle.rotations.specs.Table.{entries, table, entry, RoundedDown, G, Scaled}
 use Rattle.rotations.specs.declared.State.{State}
 use Rattle.proposal.specs.Certify.{lowAt, highAt, certifies, certificate, widths, Smallest}
-use Rattle.proposal.specs.Propose.{concluded, mirrorProposal, proposalRule}
-use Rattle.units.specs.Units.{product, unitsWith, codedEstimate}
-use Rattle.units.specs.Exact.{radian, Value, Rounded}
-use Rattle.judge.specs.Judge.{Claim, judgeRule}
+use Rattle.proposal.specs.Propose.{concluded}
+use Rattle.units.specs.Units.{belowZero, product, unitsWith, codedEstimate}
+use Rattle.units.specs.Exact.{radian, Value, InUnits, Rounded}
 use Rattle.claims.specs.Form.{twenty}
 use Rattle.claims.specs.Record.{answerAt}
 use Rattle.claims.specs.Batch.{upTo}
 use Rattle.claim_file.specs.File.{most-bytes, output}
-
--- R59: an enclosure with its ends negated and exchanged
-abbrev pub exchanged : Enclosure → Enclosure
-exchanged r = record { code = r .code; lower = negℤ (r .upper); upper = negℤ (r .lower) }
-
-abbrev pub claim : Given → Float → ℕ → ℕ → Claim
-claim g x n d = record { given = g; estimate = x; n = n; depth = d }
+use Rattle.promises.specs.Alike.{Same, Mirrors}
 
 pub record Sums : Type 0 where
   -- R8: 2^28 t_n is X^(2n+1) over (2^56)^n (2n+1)!
@@ -65,6 +58,9 @@ pub record Ends : Type 0 where
       → T (belowBy c X b) ↔ T (belowAt (orbitAt (c .m .down) (c .a .down)) X b) × T (belowAt (orbitAt (c .m .down) (c .a .up)) X b)
   pub upper-corners : (c : Cell) (X : ℕ) (b : ℤ)
       → T (aboveBy c X b) ↔ T (aboveAt (orbitAt (c .m .up) (c .a .down)) X b) × T (aboveAt (orbitAt (c .m .up) (c .a .up)) X b)
+  -- R17, R18: on the grid they are one corner, for every M and A
+  pub lower-grid : (m a X : ℕ) (b : ℤ) → belowBy (gridCell m a) X b ≡ belowAt (orbitAt m a) X b
+  pub upper-grid : (m a X : ℕ) (b : ℤ) → aboveBy (gridCell m a) X b ≡ aboveAt (orbitAt m a) X b
   -- R22
   pub lower-deeper : (x : ℤ) (g : Given) (d other : ℕ) → d ≤ other → other ≤ depths → lowerRule x g d ≡ flagged true → lowerRule x g other ≡ flagged true
   pub upper-deeper : (x : ℤ) (g : Given) (d other : ℕ) → d ≤ other → other ≤ depths → upperRule x g d ≡ flagged true → upperRule x g other ≡ flagged true
@@ -103,12 +99,23 @@ pub record Estimates : Type 0 where
   pub minus-zero : codedEstimate (ofBits binary64 0x8000000000000000) ≡ unitsWith (number done) (record { floor = 0; ceiling = 0 })
 
 pub record Mirrored : Type 0 where
-  -- R59: the answers to -M are the mirror of those to M, whatever M, A, X, estimate, N and depth
-  pub ends : (upper : Bool) (x : ℤ) (m a d : ℕ)
-      → endRule upper x (grid (negsuc m) a) d ≡ endRule (not upper) (negℤ x) (grid (pos (suc m)) a) d
-  pub enclose : (m a d : ℕ) → enclosureRule (grid (negsuc m) a) d ≡ exchanged (enclosureRule (grid (pos (suc m)) a) d)
-  pub propose : (m a : ℕ) → proposalRule (grid (negsuc m) a) ≡ mirrorProposal true (proposalRule (grid (pos (suc m)) a))
-  pub judge : (m a : ℕ) (x : Float) (n d : ℕ) → judgeRule (claim (grid (negsuc m) a) x n d) ≡ judgeRule (claim (grid (pos (suc m)) a) (neg x) n d)
+  -- R59: the answers to -M are the mirror of those to M, whatever M and A, or M and e
+  pub on-grid : (m a : ℕ) → Mirrors (grid (negsuc m) a) (grid (pos (suc m)) a)
+  pub of-doubles : (m e : Float) → belowZero m ≡ true → Mirrors (doubles m e) (doubles (neg m) e)
+
+-- R60: the double of a whole number of units, which it is exactly
+abbrev pub unitsDouble : ℤ → Float
+unitsDouble z = fin (negative z) (natAbs z) (negsuc 27)
+
+pub record Doubles : Type 0 where
+  -- R60: the exact M and A of doubles within their limits are what the doubles are
+  pub values : (m e : Float) → Passed (checksOf (doubles m e))
+      → let o = exactOf (doubles m e) in InUnits m (o .p) (o .q) × InUnits e (pos (o .r)) (o .s)
+  -- R60: and the exact M and A of whatever is given are possible: they lie in its cell
+  pub possible : (g : Given) → Possible g (exactOf g)
+  -- R60: doubles on the grid are answered as the grid's numbers are, for every M and A; and each has such doubles
+  pub on-grid : (m e : Float) (M : ℤ) (A : ℕ) → InUnits m M 1 → InUnits e (pos A) 1 → Same (doubles m e) (grid M A)
+  pub every : (M : ℤ) → InUnits (unitsDouble M) M 1
 
 pub record Program : Type 0 where
   -- R53: the answer bytes, one for each claim
@@ -125,4 +132,5 @@ pub record Further : Type 0 where
   pub proposals : Proposals
   pub estimates : Estimates
   pub mirrored : Mirrored
+  pub doubles : Doubles
   pub program : Program

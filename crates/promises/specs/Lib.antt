@@ -3,6 +3,7 @@ pub mod Demand1
 pub mod Rules
 pub mod Demand2
 pub mod Demand3
+pub mod Alike
 pub mod Further
 pub mod Starred
 pub mod Unique
