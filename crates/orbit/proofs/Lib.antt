@@ -1,2 +1,3 @@
 pub mod Posed
 pub mod Possible
+pub mod OnGrid
