@@ -5,8 +5,7 @@ use Prim.Native.Nat.{ℕ, _+_, _*_, _≤_}
 use native.Mathlib.Omega.{arith}
 use native.Mathlib.Nat.{mul-le-mul-left}
 use lib.Dec.{T}
-use lib.IntN.{ℤ, pos}
-use lib.Signed.{_≤ℤ_}
+use lib.IntN.{pos}
 use Rattle.whole.proofs.Parts.{Is, plus, minus, own, is-pos, is-add, is-minus, is-mul, is-mul-right}
 use Rattle.whole.proofs.Order.{le-parts}
 use Rattle.grid.specs.Grid.{one, T-units, depths}

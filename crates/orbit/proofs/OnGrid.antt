@@ -1,8 +1,8 @@
 -- A double that is a whole number of units: its sign, its check and its rounding are those of the number. Assumes nothing.
-use mathlib.Core.Path.{_≡_, refl, sym, ap₂, _∙_, subst}
+use mathlib.Core.Path.{_≡_, refl, sym, ap₂, subst}
 use mathlib.Core.Bool.{true, false}
-use Prim.Native.Nat.{ℕ, zero, suc, _+_, _*_, _≤_, _<_}
-use native.Mathlib.Nat.{le-of-eq, le-antisymm, mul-lt-mul-of-pos-right, lt-of-mul-lt-mul-right}
+use Prim.Native.Nat.{ℕ, zero, suc, _+_, _*_, _<_}
+use native.Mathlib.Nat.{le-of-eq, mul-lt-mul-of-pos-right, lt-of-mul-lt-mul-right}
 use native.Mathlib.Omega.{arith}
 use borrow.Author.Tests.{lt-ltb}
 use lib.Dec.{ltb, ltb→lt, lt→ltb}
@@ -13,7 +13,7 @@ use Rattle.whole.specs.Sign.{negative}
 use Rattle.whole.specs.Round as round
 use Rattle.whole.proofs.Bools.{alike}
 use Rattle.whole.proofs.Parts.{Is, own, is-pos, is-neg, is-mul}
-use Rattle.whole.proofs.Round.{down-le, le-down, le-up, up-le, down-le-up}
+use Rattle.whole.proofs.Round.{le-down, up-le, down-le-up}
 use Rattle.grid.specs.Grid.{one}
 use Rattle.units.specs.Units.{belowZero, floorAndCeiling, offRange}
 use Rattle.units.specs.Exact.{InUnits}

@@ -1,35 +1,30 @@
 -- The further promises of the rules are kept. Assumes nothing.
-use mathlib.Core.Path.{_≡_, refl, sym, subst}
+use mathlib.Core.Path.{_≡_, refl, subst}
 use mathlib.Core.Bool.{Bool, true, false}
 use mathlib.Core.List.{[], _∷_}
-use Prim.Native.Nat.{ℕ, suc, _+_, _^_, _≤_, _<_}
+use Prim.Native.Nat.{ℕ, _+_, _^_, _≤_, _<_}
 use native.Mathlib.Omega.{arith}
-use lib.IntN.{ℤ, pos, negsuc, natAbs}
-use lib.Ieee.{Float, binary64, ofBits, neg}
-use Rattle.whole.proofs.CodeRoom.{size-sign}
+use lib.IntN.{ℤ, natAbs}
+use lib.Ieee.{binary64, ofBits}
 use Rattle.grid.specs.Grid.{T-units, depths}
 use Rattle.grid.specs.Codes.{depth-check}
 use Rattle.grid.proofs.FirstCode.{split, join}
 use Rattle.grid.proofs.Fits.{depth-passes}
-use Rattle.grid.proofs.Refuses.{through}
 use Rattle.series.proofs.Factorial.{den-is, num-is}
 use Rattle.series.proofs.Falling.{sine-odd-never-falls, sine-even-never-rises}
 use Rattle.series.proofs.Deeper.{Lo-rises, Hi-falls}
 use Rattle.orbit.specs.Mirror.{mirrorEnd}
-use Rattle.orbit.specs.Given.{Given, grid, checksOf, mirroredOf, cellOf}
+use Rattle.orbit.specs.Given.{Given, checksOf, mirroredOf, cellOf}
 use Rattle.orbit.proofs.Posed.{problem-in}
 use Rattle.ends.specs.Entry.{flagged, endRule}
 use Rattle.ends.proofs.Corners as tests
 use Rattle.ends.proofs.Known.{zero-lower, T-never}
 use Rattle.enclosure.specs.Halving.{widest, lastBracket}
-use Rattle.enclosure.specs.Enclosure.{refusal, enclosed, enclosureChecks, enclosureRule}
 use Rattle.enclosure.proofs.Halving.{thirty-end, turns-inside}
 use Rattle.enclosure.proofs.Encloses.{never-six}
 use Rattle.rotations.specs.Table.{table}
 use Rattle.rotations.proofs.Table.{entry-right, den-pos, G-right}
-use Rattle.proposal.specs.Propose.{proposed, mirrorProposal, proposalRefused, proposalRule}
 use Rattle.proposal.proofs.Certificate.{certified, concluded-true}
-use Rattle.judge.specs.Judge.{judgeRule}
 use Rattle.units.specs.Units.{offRange, unitsWith, codedEstimate}
 use Rattle.units.proofs.Rounding.{made-exact, made-rounded}
 use Rattle.claim_file.proofs.Output as program

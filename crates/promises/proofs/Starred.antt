@@ -10,7 +10,7 @@ use Rattle.ends.specs.Ends.{belowBy, aboveBy}
 use Rattle.enclosure.specs.Halving.{halve, turns}
 use Rattle.enclosure.specs.Enclosure.{foundLower, foundUpper}
 use Rattle.enclosure.proofs.Encloses.{circle}
-use Rattle.units.specs.Units.{offRange}
+use Rattle.units.specs.Units.{belowZero, offRange}
 use Rattle.judge.specs.Verdict.{confirmed, refuted, verdictOf}
 use Rattle.judge.specs.Judge.{judgeRule}
 use Rattle.little.specs.LittleEndian.{littleEndian}
@@ -36,11 +36,14 @@ list =
     and refl and refl and refl and refl and refl and refl and refl and refl and refl and refl and refl and tt
 
 beside : AllHold others
-unfolding others l u evens odds rawLow rawHigh greatestLow leastHigh belowBy aboveBy halve turns foundLower foundUpper neg offRange ofBits verdictOf confirmed refuted judgeRule littleEndian answerAt batchRule upTo answersAfter
+unfolding others l u evens odds rawLow rawHigh greatestLow leastHigh belowBy aboveBy halve turns foundLower foundUpper neg belowZero offRange ofBits verdictOf confirmed refuted judgeRule littleEndian answerAt batchRule upTo answersAfter
 beside =
     (refl, refl) and (refl, refl) and (refl, refl) and (refl, refl) and (refl, refl) and (refl, refl)
     and (refl, refl) and (refl, refl) and (refl, refl) and (refl, refl) and (refl, refl) and (refl, refl) and (refl, refl) and (refl, refl)
     and refl and refl and refl and refl and refl and refl and refl and refl and refl and refl and refl and refl and refl
+    and (refl, refl) and (refl, refl) and (refl, refl) and (refl, refl) and (refl, refl) and (refl, refl) and (refl, refl)
+    and (refl, refl) and (refl, refl) and (refl, refl) and (refl, refl) and (refl, refl)
+    and (refl, refl) and (refl, refl) and (refl, refl) and (refl, refl) and refl and refl and refl and refl and refl
     and (refl, refl) and (refl, refl) and tt
 
 pub starred-met : Starred

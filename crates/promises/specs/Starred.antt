@@ -11,7 +11,7 @@ use Rattle.grid.specs.Codes.{Code, number, done, bad-m, bad-a, bad-estimate, ba
 use Rattle.series.specs.Bounds.{rawLow, rawHigh}
 use Rattle.series.specs.Sine as series
 use Rattle.series.specs.Entry.{sineRule}
-use Rattle.orbit.specs.Given.{grid}
+use Rattle.orbit.specs.Given.{Given, grid, doubles}
 use Rattle.ends.specs.Entry.{flagged, lowerRule, upperRule}
 use Rattle.enclosure.specs.Enclosure.{enclosureRule}
 use Rattle.units.specs.Units.{unitsWith, codedEstimate}
@@ -30,18 +30,18 @@ pub data Row : Type 0 where
   sine-any : ℕ → ℕ → ℕ → Row
   -- M, A, X, depth: accepted or not
   lower upper : ℕ → ℕ → ℕ → ℕ → Bool → Row
-  -- M, A, depth: code and the two ends
-  ends : ℤ → ℕ → ℕ → Code → ℤ → ℤ → Row
+  -- what is given, depth: code and the two ends
+  ends : Given → ℕ → Code → ℤ → ℤ → Row
   -- the estimate's bits: f and c
   estimate : ℕ → ℕ → ℕ → Row
-  -- M, A, X: the code of the end tests at depth 1
-  code : ℤ → ℕ → ℤ → Code → Row
+  -- what is given, X: the code of the end tests at depth 1
+  code : Given → ℤ → Code → Row
   -- the estimate's bits: its code
   estimate-code : ℕ → Code → Row
-  -- M, A, the estimate's bits, N, depth: the verdict
-  judged : ℤ → ℕ → ℕ → ℕ → ℕ → Verdict → Row
-  -- M, A, the estimate's bits: the judge's code, with N = 0 at depth 5
-  judge-code : ℤ → ℕ → ℕ → Code → Row
+  -- what is given, the estimate's bits, N, depth: the verdict
+  judged : Given → ℕ → ℕ → ℕ → Verdict → Row
+  -- what is given, the estimate's bits: the judge's code, with N = 0 at depth 5
+  judge-code : Given → ℕ → Code → Row
   -- claims and the answers buffer: the count, and the buffer after
   batch : List ℕ → List ℕ → ℕ → List ℕ → Row
 
@@ -49,8 +49,12 @@ pub data Row : Type 0 where
 abbrev pub minus : ℕ → ℤ
 minus n = negℤ (pos n)
 
-abbrev pub judge : ℤ → ℕ → ℕ → ℕ → ℕ → Judged
-judge M A bits N d = judgeRule (record { given = grid M A; estimate = ofBits binary64 bits; n = N; depth = d })
+-- M and e by the bits of their doubles
+abbrev pub bits : ℕ → ℕ → Given
+bits m e = doubles (ofBits binary64 m) (ofBits binary64 e)
+
+abbrev pub judge : Given → ℕ → ℕ → ℕ → Judged
+judge g x N d = judgeRule (record { given = g; estimate = ofBits binary64 x; n = N; depth = d })
 
 -- code 0, Lo and Hi
 abbrev pub Bounds : ℕ → ℕ → ℕ → ℕ → Type 0
@@ -62,12 +66,12 @@ Holds (sine-any X lo hi) = (d : ℕ) → 1 ≤ d → d ≤ depths → Bounds X d
 Holds (raw X d lo hi) = (rawLow series.sine X d ≡ pos lo) × (rawHigh series.sine X d ≡ pos hi)
 Holds (lower M A X d t) = lowerRule (pos X) (grid (pos M) A) d ≡ flagged t
 Holds (upper M A X d t) = upperRule (pos X) (grid (pos M) A) d ≡ flagged t
-Holds (ends M A d k a b) = enclosureRule (grid M A) d ≡ record { code = number k; lower = a; upper = b }
-Holds (estimate bits f c) = codedEstimate (ofBits binary64 bits) ≡ unitsWith (number done) (record { floor = f; ceiling = c })
-Holds (code M A X k) = (lowerRule X (grid M A) 1 .code ≡ number k) × (upperRule X (grid M A) 1 .code ≡ number k)
-Holds (estimate-code bits k) = codedEstimate (ofBits binary64 bits) .code ≡ number k
-Holds (judged M A bits N d v) = judge M A bits N d ≡ verdict v
-Holds (judge-code M A bits k) = judge M A bits 0 depths .code ≡ number k
+Holds (ends g d k a b) = enclosureRule g d ≡ record { code = number k; lower = a; upper = b }
+Holds (estimate x f c) = codedEstimate (ofBits binary64 x) ≡ unitsWith (number done) (record { floor = f; ceiling = c })
+Holds (code g X k) = (lowerRule X g 1 .code ≡ number k) × (upperRule X g 1 .code ≡ number k)
+Holds (estimate-code x k) = codedEstimate (ofBits binary64 x) .code ≡ number k
+Holds (judged g x N d v) = judge g x N d ≡ verdict v
+Holds (judge-code g x k) = judge g x 0 depths .code ≡ number k
 Holds (batch claims answers n after) =
     (batchRule twenty (length claims) (length answers) ≡ record { code = number done; count = n })
     × (answersAfter twenty claims answers ≡ after)
@@ -97,8 +101,8 @@ starred =
     ∷ lower 44739242 one 268435456 1 false
     ∷ upper 42502279 one 268435456 1 true
     ∷ upper 42502280 one 268435456 1 false
-    ∷ ends (pos 0) one 5 done (pos 0) (pos 0)
-    ∷ ends (pos H-units) one 1 no-upper-end (pos 0) (pos 0)
+    ∷ ends (grid (pos 0) one) 5 done (pos 0) (pos 0)
+    ∷ ends (grid (pos H-units) one) 1 no-upper-end (pos 0) (pos 0)
     -- the estimate 2^-1074
     ∷ estimate 1 0 1
     ∷ []
@@ -128,40 +132,66 @@ claim4 =
 unfoldable pub others : List Row
 others =
     -- each limit, and one more
-    code (pos H-units) one (pos T-units) done
-    ∷ code (pos (H-units + 1)) one (pos T-units) bad-m
-    ∷ code (pos 0) one (pos T-units) done
-    ∷ code (pos 0) (one + 1) (pos T-units) bad-a
-    ∷ code (pos 0) 0 (pos T-units) done
-    ∷ code (pos 0) 0 (pos (T-units + 1)) bad-x
+    code (grid (pos H-units) one) (pos T-units) done
+    ∷ code (grid (pos (H-units + 1)) one) (pos T-units) bad-m
+    ∷ code (grid (pos 0) one) (pos T-units) done
+    ∷ code (grid (pos 0) (one + 1)) (pos T-units) bad-a
+    ∷ code (grid (pos 0) 0) (pos T-units) done
+    ∷ code (grid (pos 0) 0) (pos (T-units + 1)) bad-x
     -- the same of a negative M, and the least number of 32 bits
-    ∷ code (minus H-units) one (minus T-units) done
-    ∷ code (minus (H-units + 1)) one (minus T-units) bad-m
-    ∷ code (minus 2147483648) one (pos 0) bad-m
-    ∷ code (minus 1) 0 (minus T-units) done
-    ∷ code (minus 1) 0 (minus (T-units + 1)) bad-x
+    ∷ code (grid (minus H-units) one) (minus T-units) done
+    ∷ code (grid (minus (H-units + 1)) one) (minus T-units) bad-m
+    ∷ code (grid (minus 2147483648) one) (pos 0) bad-m
+    ∷ code (grid (minus 1) 0) (minus T-units) done
+    ∷ code (grid (minus 1) 0) (minus (T-units + 1)) bad-x
     -- an angle on the other side of 0 than M, and 0 itself
-    ∷ code (minus 1) 0 (pos 1) bad-x
-    ∷ code (minus 1) 0 (pos 0) done
-    ∷ code (pos 0) 0 (minus 1) bad-x
+    ∷ code (grid (minus 1) 0) (pos 1) bad-x
+    ∷ code (grid (minus 1) 0) (pos 0) done
+    ∷ code (grid (pos 0) 0) (minus 1) bad-x
     -- the mirror exchanges the ends of M = 1, which are 756153 and 952744
-    ∷ ends (minus 1) one 1 done (minus 952744) (minus 756153)
+    ∷ ends (grid (minus 1) one) 1 done (minus 952744) (minus 756153)
     -- T units in radians, and the next double above them
     ∷ estimate-code 0x400921fb74000000 done
     ∷ estimate-code 0x400921fb74000001 bad-estimate
     -- M = 0, e = 1: the estimates 2^-9, whose residual is small (R58), and 2^-8; and 0 with two tolerances, of which the
     -- wider loses the verdict (R47)
-    ∷ judged (pos 0) one 0x3f60000000000000 1000 5 Undecided
-    ∷ judged (pos 0) one 0x3f70000000000000 1000 5 Refuted
-    ∷ judged (pos 0) one 0 0 5 Confirmed
-    ∷ judged (pos 0) one 0 1 5 Undecided
+    ∷ judged (grid (pos 0) one) 0x3f60000000000000 1000 5 Undecided
+    ∷ judged (grid (pos 0) one) 0x3f70000000000000 1000 5 Refuted
+    ∷ judged (grid (pos 0) one) 0 0 5 Confirmed
+    ∷ judged (grid (pos 0) one) 0 1 5 Undecided
     -- minus zero is 0 for every M; the least double of either sign, 2^-1074 and its negative
-    ∷ judged (pos 0) one 0x8000000000000000 0 5 Confirmed
-    ∷ judge-code (minus 1) one 0x8000000000000000 done
-    ∷ judge-code (minus 1) one 0 done
-    ∷ judge-code (pos 0) one 0x8000000000000001 bad-estimate
-    ∷ judge-code (minus 1) one 0x8000000000000001 done
-    ∷ judge-code (minus 1) one 1 bad-estimate
+    ∷ judged (grid (pos 0) one) 0x8000000000000000 0 5 Confirmed
+    ∷ judge-code (grid (minus 1) one) 0x8000000000000000 done
+    ∷ judge-code (grid (minus 1) one) 0 done
+    ∷ judge-code (grid (pos 0) one) 0x8000000000000001 bad-estimate
+    ∷ judge-code (grid (minus 1) one) 0x8000000000000001 done
+    ∷ judge-code (grid (minus 1) one) 1 bad-estimate
+    -- doubles: e = 1, and M of H units in size, the next double, pi, a NaN and an infinity
+    ∷ code (bits 0x400921fb54000000 0x3ff0000000000000) (pos T-units) done
+    ∷ code (bits 0x400921fb54000001 0x3ff0000000000000) (pos T-units) bad-m
+    ∷ code (bits 0xc00921fb54000000 0x3ff0000000000000) (minus T-units) done
+    ∷ code (bits 0xc00921fb54000001 0x3ff0000000000000) (minus T-units) bad-m
+    ∷ code (bits 0x400921fb54442d18 0x3ff0000000000000) (pos T-units) bad-m
+    ∷ code (bits 0x7ff8000000000000 0x3ff0000000000000) (pos T-units) bad-m
+    ∷ code (bits 0xfff0000000000000 0x3ff0000000000000) (pos T-units) bad-m
+    -- M = 0, and e the next double above 1, the greatest below 0, minus zero, a NaN and an infinity
+    ∷ code (bits 0 0x3ff0000000000001) (pos T-units) bad-a
+    ∷ code (bits 0 0x8000000000000001) (pos T-units) bad-a
+    ∷ code (bits 0 0x8000000000000000) (pos T-units) done
+    ∷ code (bits 0 0x7ff8000000000000) (pos T-units) bad-a
+    ∷ code (bits 0 0x7ff0000000000000) (pos T-units) bad-a
+    -- the sign of M is the double's own: -1e-300, and minus zero
+    ∷ code (bits 0x81a56e1fc2f8f359 0) (pos 1) bad-x
+    ∷ code (bits 0x81a56e1fc2f8f359 0) (minus 1) done
+    ∷ code (bits 0x8000000000000000 0) (pos 1) done
+    ∷ code (bits 0x8000000000000000 0) (minus 1) bad-x
+    ∷ judge-code (bits 0x81a56e1fc2f8f359 0) 1 bad-estimate
+    -- M = half a unit, e = 1: the cell reaches from M = 0 to M = 1, and so from the lower end of 0 to the upper end of 1
+    ∷ ends (bits 0x3e20000000000000 0x3ff0000000000000) 1 done (pos 0) (pos 952744)
+    ∷ ends (bits 0xbe20000000000000 0x3ff0000000000000) 1 done (minus 952744) (pos 0)
+    -- and an estimate near its root, which M rounded to 1 refutes
+    ∷ judged (bits 0x3e20000000000000 0x3ff0000000000000) 0x3f62515fd0117e41 1000 5 Undecided
+    ∷ judged (grid (pos 1) one) 0x3f62515fd0117e41 1000 5 Refuted
     -- the bytes as they stand in the buffer
     ∷ batch (claim1 ++ claim2) (0x00 ∷ 0x00 ∷ []) 2 (0x10 ∷ 0x12 ∷ [])
     ∷ batch (claim3 ++ claim4) (0x00 ∷ 0x00 ∷ []) 2 (0x10 ∷ 0x01 ∷ [])

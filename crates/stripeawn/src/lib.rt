@@ -87,7 +87,13 @@ pub extern "C" fn stripeawn_judge(m: i32, a: u32, estimate: f64, n: u32, depth: 
 }
 
 #[no_mangle]
-pub extern "C" fn stripeawn_judge_double(m: f64, e: f64, estimate: f64, n: u32, depth: u32) -> Judged
+pub extern "C" fn stripeawn_judge_double(
+    m: f64,
+    e: f64,
+    estimate: f64,
+    n: u32,
+    depth: u32,
+) -> Judged
     ensures { λ r. ⌜ r ≡ judgeRule (record { given = doubles m e; estimate = estimate; n = n; depth = depth }) ⌝ }
 {
     judge::judge_double(m, e, estimate, n, depth)

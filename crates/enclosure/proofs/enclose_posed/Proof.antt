@@ -1,5 +1,5 @@
 -- `enclosure::enclose_posed` meets its contract: the problem's checks, then the check of T and the searches. Assumes nothing.
-use mathlib.Core.Path.{_≡_, sym, ap, _∙_}
+use mathlib.Core.Path.{sym, ap, _∙_}
 use borrow.Author.Needs.{needs}
 use Rattle.grid.proofs.FirstCode.{goes, stops}
 use Rattle.orbit.specs.Given.{mirroredOf, cellOf, problemChecks}

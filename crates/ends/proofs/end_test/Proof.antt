@@ -15,7 +15,7 @@ use Rattle.grid.proofs.Refuses.{Says, then}
 use Rattle.grid.proofs.Made.{signed-angles}
 use Rattle.grid.proofs.Fits.{signed-fits}
 use Rattle.orbit.specs.Mirror.{mirror}
-use Rattle.orbit.specs.Given.{Given, mirroredOf, cellOf, codedProblem, problemChecks, problemAt, problemWith}
+use Rattle.orbit.specs.Given.{Given, mirroredOf, cellOf, codedProblem, problemAt, problemWith}
 use Rattle.orbit.proofs.Posed.{problems}
 use Rattle.ends.specs.Entry.{endChecks, flagged}
 use Rattle.ends.proofs.Answered.{ends}

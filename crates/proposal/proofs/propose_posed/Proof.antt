@@ -1,5 +1,5 @@
 -- `proposal::propose_posed` meets its contract: the cell's checks, then the rotations and the certificate. Assumes nothing.
-use mathlib.Core.Path.{_≡_, refl, sym, ap, subst, _∙_}
+use mathlib.Core.Path.{refl, sym, ap, subst, _∙_}
 use native.Mathlib.Omega.{arith}
 use Rattle.orbit.specs.Cell.{CellIn}
 use Rattle.orbit.specs.declared.CodedCell.{CodedCell}
