@@ -3,16 +3,16 @@
 **
 ** Every entry is called with the inputs, with their mirror, and with a few at
 ** limits and past them. The entries with a depth are called with 0 to 6,
-** which has the refusal of either side of its limits in it.
+** which has the refusal of either side of its limits in it. agree_double.c
+** has the entries that take M and e as doubles.
 */
 #include <math.h>
 #include <stdio.h>
 
 #include "agree.h"
+#include "answers.h"
 #include "inputs.h"
 #include "plain.h"
-
-enum { SHOWN = 5 };
 
 /* What the entries are given, each taking what it needs. */
 struct call {
@@ -43,13 +43,10 @@ static const struct call limits[] = {
     { -1, 0, -1.0, STRIPEAWN_A_MAX + 1, DEPTH },
 };
 
-static unsigned long compared, different;
-
 /* One call on both sides: counted, and printed where they differ. */
 static void compare(const char *entry, const struct call *c, int same)
 {
-    compared++;
-    if (same || different++ >= SHOWN)
+    if (!to_be_shown(same))
         return;
     printf("%s differs: M = %ld, A = %lu, X = %ld, estimate %a, depth %lu\n",
            entry, (long)c->m, (unsigned long)c->a, (long)c->x, c->estimate,
@@ -67,42 +64,35 @@ static void compare_sine(const struct call *c)
 
 static void compare_ends(const struct call *c)
 {
-    struct stripeawn_end s = stripeawn_lower_end(c->x, c->m, c->a, c->depth);
-    struct stripeawn_end p = plain_lower_end(c->x, c->m, c->a, c->depth);
-
-    compare("lower_end", c, s.code == p.code && s.accepted == p.accepted);
-    s = stripeawn_upper_end(c->x, c->m, c->a, c->depth);
-    p = plain_upper_end(c->x, c->m, c->a, c->depth);
-    compare("upper_end", c, s.code == p.code && s.accepted == p.accepted);
+    compare("lower_end", c,
+            same_ends(stripeawn_lower_end(c->x, c->m, c->a, c->depth),
+                      plain_lower_end(c->x, c->m, c->a, c->depth)));
+    compare("upper_end", c,
+            same_ends(stripeawn_upper_end(c->x, c->m, c->a, c->depth),
+                      plain_upper_end(c->x, c->m, c->a, c->depth)));
 }
 
 static void compare_enclosure(const struct call *c)
 {
-    struct stripeawn_enclosure s = stripeawn_enclose(c->m, c->a, c->depth);
-    struct stripeawn_enclosure p = plain_enclose(c->m, c->a, c->depth);
-
     compare("enclose", c,
-            s.code == p.code && s.lower == p.lower && s.upper == p.upper);
+            same_enclosures(stripeawn_enclose(c->m, c->a, c->depth),
+                            plain_enclose(c->m, c->a, c->depth)));
 }
 
 static void compare_verdict(const struct call *c)
 {
-    struct stripeawn_verdict s =
-        stripeawn_judge(c->m, c->a, c->estimate, TOLERANCE, c->depth);
-    struct stripeawn_verdict p =
-        plain_judge(c->m, c->a, c->estimate, TOLERANCE, c->depth);
-
-    compare("judge", c, s.code == p.code && s.verdict == p.verdict);
+    compare("judge", c,
+            same_verdicts(stripeawn_judge(c->m, c->a, c->estimate, TOLERANCE,
+                                          c->depth),
+                          plain_judge(c->m, c->a, c->estimate, TOLERANCE,
+                                      c->depth)));
 }
 
 static void compare_proposal(const struct call *c)
 {
-    struct stripeawn_proposal s = stripeawn_propose(c->m, c->a);
-    struct stripeawn_proposal p = plain_propose(c->m, c->a);
-
     compare("propose", c,
-            s.code == p.code && s.angle == p.angle && s.e_sin == p.e_sin &&
-                s.e_cos == p.e_cos && s.j == p.j);
+            same_proposals(stripeawn_propose(c->m, c->a),
+                           plain_propose(c->m, c->a)));
 }
 
 /* One batch of the claims of all calls, answer by answer. */
@@ -162,7 +152,6 @@ int sides_agree(void)
     compare_inputs(1);
     compare_inputs(-1);
     compare_entries(limits, sizeof limits / sizeof limits[0]);
-    printf("%lu calls and answers compared on both sides, %lu differ\n",
-           compared, different);
-    return different == 0;
+    compare_doubles();
+    return none_differ();
 }

@@ -7,4 +7,7 @@
 /* Compares them over all inputs and prints the differences; 1 if none. */
 int sides_agree(void);
 
+/* Its part with M and e as doubles: compares, counts, prints differences. */
+void compare_doubles(void);
+
 #endif

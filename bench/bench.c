@@ -6,7 +6,8 @@
 ** First both sides must give the same answer to every call. Then both run in
 ** this one process over the same inputs, in turns, and the fastest of ROUNDS
 ** rounds counts, so that the ratios mean something on a busy machine. NOTE,
-** if given, is printed with the figures.
+** if given, is printed with the figures. The last lines have what doubles
+** cost: the library's entries that take them against those of the grid.
 */
 #define _POSIX_C_SOURCE 200809L
 #include <stdio.h>
@@ -24,6 +25,9 @@
 typedef uint64_t pass(void);
 
 static volatile uint64_t kept;
+
+/* Which doubles the passes over doubles take. */
+static const struct doubles *given;
 
 /*
 ** The same loop for both sides: CALL gives the sum of one call's numbers
@@ -70,6 +74,24 @@ static volatile uint64_t kept;
 #define JUDGE(P)                                                            \
         sum += P##_judge(anomalies[i], eccentricities[i], estimates[i],     \
                          TOLERANCE, DEPTH).verdict;
+#define LOWER_DOUBLE(P)                                                     \
+        sum += P##_lower_end_double(given[i].x, given[i].m, given[i].e,     \
+                                    DEPTH).accepted;
+#define UPPER_DOUBLE(P)                                                     \
+        sum += P##_upper_end_double(given[i].x, given[i].m, given[i].e,     \
+                                    DEPTH).accepted;
+#define ENCLOSE_DOUBLE(P) {                                                 \
+        struct stripeawn_enclosure r =                                      \
+            P##_enclose_double(given[i].m, given[i].e, DEPTH);              \
+        sum += (uint64_t)r.lower * 3 + (uint64_t)r.upper; }
+#define PROPOSE_DOUBLE(P) {                                                 \
+        struct stripeawn_proposal r =                                       \
+            P##_propose_double(given[i].m, given[i].e);                     \
+        sum += (uint64_t)r.angle + (uint64_t)r.e_sin +                      \
+               (uint64_t)r.e_cos + r.j; }
+#define JUDGE_DOUBLE(P)                                                     \
+        sum += P##_judge_double(given[i].m, given[i].e, given[i].estimate,  \
+                                TOLERANCE, DEPTH).verdict;
 
 BOTH_SIDES(sine, SINE)
 BOTH_SIDES(lower, LOWER)
@@ -78,6 +100,11 @@ BOTH_SIDES(enclose, ENCLOSE)
 BOTH_SIDES(enclose_mirrored, ENCLOSE_MIRRORED)
 BOTH_SIDES(propose, PROPOSE)
 BOTH_SIDES(judge, JUDGE)
+BOTH_SIDES(lower_double, LOWER_DOUBLE)
+BOTH_SIDES(upper_double, UPPER_DOUBLE)
+BOTH_SIDES(enclose_double, ENCLOSE_DOUBLE)
+BOTH_SIDES(propose_double, PROPOSE_DOUBLE)
+BOTH_SIDES(judge_double, JUDGE_DOUBLE)
 
 static uint64_t sum_of(const uint8_t *answers)
 {
@@ -123,24 +150,27 @@ static double timed(pass *side, double least)
     return took < least ? took : least;
 }
 
-/* Times both sides in turns and prints a line. */
-static void measure(const char *name, pass *library, pass *plain, long rounds)
+/* Times two passes in turns and prints a line. */
+static void measure(const char *name, pass *left, pass *right, long rounds)
 {
-    double library_least = 1e9, plain_least = 1e9;
+    double left_least = 1e9, right_least = 1e9;
     long round;
 
     for (round = 0; round < rounds; round++) {
-        library_least = timed(library, library_least);
-        plain_least = timed(plain, plain_least);
+        left_least = timed(left, left_least);
+        right_least = timed(right, right_least);
     }
-    printf("%-24s %10.1f %10.1f %8.2f\n", name, library_least / INPUTS * 1e9,
-           plain_least / INPUTS * 1e9, library_least / plain_least);
+    printf("%-24s %10.1f %10.1f %8.2f\n", name, left_least / INPUTS * 1e9,
+           right_least / INPUTS * 1e9, left_least / right_least);
 }
 
-static void measure_all(long rounds)
+static void print_heading(const char *left, const char *right)
 {
-    printf("nanoseconds a call at depth 5, least of %ld rounds\n", rounds);
-    printf("%-24s %10s %10s %8s\n", "entry", "library", "plain C", "ratio");
+    printf("%-24s %10s %10s %8s\n", "entry", left, right, "ratio");
+}
+
+static void measure_grid(long rounds)
+{
     measure("sine", library_sine, plain_sine_pass, rounds);
     measure("lower_end", library_lower, plain_lower_pass, rounds);
     measure("upper_end", library_upper, plain_upper_pass, rounds);
@@ -150,6 +180,57 @@ static void measure_all(long rounds)
     measure("propose", library_propose, plain_propose_pass, rounds);
     measure("judge", library_judge, plain_judge_pass, rounds);
     measure("judge_claims, a claim", library_batch, plain_batch_pass, rounds);
+}
+
+/* The entries that take doubles, each with its twin on the grid. */
+static const struct {
+    const char *name;
+    pass *library, *plain, *twin;
+} double_rows[] = {
+    { "lower_end_double", library_lower_double, plain_lower_double_pass,
+      library_lower },
+    { "upper_end_double", library_upper_double, plain_upper_double_pass,
+      library_upper },
+    { "enclose_double", library_enclose_double, plain_enclose_double_pass,
+      library_enclose },
+    { "propose_double", library_propose_double, plain_propose_double_pass,
+      library_propose },
+    { "judge_double", library_judge_double, plain_judge_double_pass,
+      library_judge },
+};
+
+enum { DOUBLE_ROWS = sizeof double_rows / sizeof double_rows[0] };
+
+static void measure_doubles(long rounds)
+{
+    int i;
+
+    given = off_grid;
+    for (i = 0; i < DOUBLE_ROWS; i++)
+        measure(double_rows[i].name, double_rows[i].library,
+                double_rows[i].plain, rounds);
+}
+
+/* The same orbits given to both kinds of entries. */
+static void measure_price(long rounds)
+{
+    int i;
+
+    given = on_grid;
+    for (i = 0; i < DOUBLE_ROWS; i++)
+        measure(double_rows[i].name, double_rows[i].library,
+                double_rows[i].twin, rounds);
+}
+
+static void measure_all(long rounds)
+{
+    printf("nanoseconds a call at depth 5, least of %ld rounds\n", rounds);
+    print_heading("library", "plain C");
+    measure_grid(rounds);
+    measure_doubles(rounds);
+    printf("the library alone, the same orbits as doubles and on the grid\n");
+    print_heading("doubles", "grid");
+    measure_price(rounds);
 }
 
 int main(int count, char **arguments)

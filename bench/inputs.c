@@ -10,6 +10,7 @@ int32_t anomalies[INPUTS], angles[INPUTS];
 uint32_t eccentricities[INPUTS];
 double estimates[INPUTS];
 uint8_t claims[STRIPEAWN_CLAIM_BYTES * INPUTS];
+struct doubles on_grid[INPUTS], off_grid[INPUTS];
 
 /* A fixed sequence of numbers from 0 to the limit (Marsaglia's xorshift). */
 static uint32_t draw(uint32_t limit)
@@ -34,7 +35,18 @@ void put_claim(uint8_t *record, int32_t m, uint32_t a, double estimate)
     record[19] = 0;
 }
 
-void make_inputs(void)
+/* An angle near a root above the lower end, and an estimate near that. */
+static int32_t near_root(int32_t lower)
+{
+    return lower + (int32_t)draw(20);
+}
+
+static double near_angle(int32_t x)
+{
+    return (x + (int32_t)draw(200)) * STRIPEAWN_UNIT;
+}
+
+static void make_grid_inputs(void)
 {
     int i;
 
@@ -42,8 +54,42 @@ void make_inputs(void)
         int32_t m = anomalies[i] = (int32_t)draw(STRIPEAWN_M_MAX - 1000);
         uint32_t a = eccentricities[i] = draw(STRIPEAWN_A_MAX);
 
-        angles[i] = plain_enclose(m, a, DEPTH).lower + (int32_t)draw(20);
-        estimates[i] = (angles[i] + (int32_t)draw(200)) * STRIPEAWN_UNIT;
+        angles[i] = near_root(plain_enclose(m, a, DEPTH).lower);
+        estimates[i] = near_angle(angles[i]);
         put_claim(claims + STRIPEAWN_CLAIM_BYTES * i, m, a, estimates[i]);
     }
+}
+
+/* Part of a unit less, so that nothing above a limit comes of it; 0 stays. */
+static double less_a_part(double units)
+{
+    double part = (1 + draw(1022)) / 1024.0;
+
+    return units > 0.0 ? (units - part) * STRIPEAWN_UNIT : 0.0;
+}
+
+static void make_double_inputs(void)
+{
+    int i;
+
+    for (i = 0; i < INPUTS; i++) {
+        struct doubles on = { anomalies[i] * STRIPEAWN_UNIT,
+                              eccentricities[i] * STRIPEAWN_UNIT,
+                              estimates[i], angles[i] };
+        struct doubles off;
+
+        off.m = less_a_part(anomalies[i]);
+        off.e = less_a_part(eccentricities[i]);
+        off.x = near_root(plain_enclose_double(off.m, off.e, DEPTH).lower);
+        off.estimate = near_angle(off.x);
+        on_grid[i] = on;
+        off_grid[i] = off;
+    }
+}
+
+/* The doubles are drawn last: the grid's inputs are what they ever were. */
+void make_inputs(void)
+{
+    make_grid_inputs();
+    make_double_inputs();
 }

@@ -13,9 +13,18 @@ extern uint32_t eccentricities[INPUTS];
 extern double estimates[INPUTS];
 extern uint8_t claims[STRIPEAWN_CLAIM_BYTES * INPUTS];
 
+/* An orbit as doubles, M in radians and e, and an angle and an estimate. */
+struct doubles {
+    double m, e, estimate;
+    int32_t x;
+};
+
+extern struct doubles on_grid[INPUTS], off_grid[INPUTS];
+
 /*
 ** Any orbit with M not below 0, an angle near its root, and an estimate some
-** units off it.
+** units off it. The doubles on the grid are the same orbits, angles and
+** estimates once more; those off it are orbits less than a unit away.
 */
 void make_inputs(void);
 

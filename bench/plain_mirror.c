@@ -8,15 +8,43 @@
 #include "unmirrored.h"
 
 /* M or a number beside it, turned round where M is below 0. */
-static uint32_t unmirrored(int32_t number, int32_t m)
+static uint32_t unmirrored(int32_t number, int mirrored)
 {
-    return m < 0 ? 0 - (uint32_t)number : (uint32_t)number;
+    return mirrored ? 0 - (uint32_t)number : (uint32_t)number;
+}
+
+/* The same of a double: no NaN is below 0, and either zero stays one. */
+static double unmirrored_double(double number, int mirrored)
+{
+    return mirrored ? -number : number;
+}
+
+static struct stripeawn_enclosure mirror_ends(struct stripeawn_enclosure r,
+                                              int mirrored)
+{
+    int32_t lower = r.lower;
+
+    if (mirrored) {
+        r.lower = -r.upper;
+        r.upper = -lower;
+    }
+    return r;
+}
+
+static struct stripeawn_proposal mirror_proposal(struct stripeawn_proposal r,
+                                                 int mirrored)
+{
+    if (mirrored) {
+        r.angle = -r.angle;
+        r.e_sin = -r.e_sin;
+    }
+    return r;
 }
 
 struct stripeawn_end plain_lower_end(int32_t x, int32_t m, uint32_t a,
                                      uint32_t depth)
 {
-    uint32_t angle = unmirrored(x, m), size = unmirrored(m, m);
+    uint32_t angle = unmirrored(x, m < 0), size = unmirrored(m, m < 0);
 
     return m < 0 ? unmirrored_upper_end(angle, size, a, depth)
                  : unmirrored_lower_end(angle, size, a, depth);
@@ -25,40 +53,69 @@ struct stripeawn_end plain_lower_end(int32_t x, int32_t m, uint32_t a,
 struct stripeawn_end plain_upper_end(int32_t x, int32_t m, uint32_t a,
                                      uint32_t depth)
 {
-    uint32_t angle = unmirrored(x, m), size = unmirrored(m, m);
+    uint32_t angle = unmirrored(x, m < 0), size = unmirrored(m, m < 0);
 
     return m < 0 ? unmirrored_lower_end(angle, size, a, depth)
                  : unmirrored_upper_end(angle, size, a, depth);
 }
 
+struct stripeawn_end plain_lower_end_double(int32_t x, double m, double e,
+                                            uint32_t depth)
+{
+    uint32_t angle = unmirrored(x, m < 0);
+
+    return m < 0 ? unmirrored_upper_end_double(angle, -m, e, depth)
+                 : unmirrored_lower_end_double(angle, m, e, depth);
+}
+
+struct stripeawn_end plain_upper_end_double(int32_t x, double m, double e,
+                                            uint32_t depth)
+{
+    uint32_t angle = unmirrored(x, m < 0);
+
+    return m < 0 ? unmirrored_lower_end_double(angle, -m, e, depth)
+                 : unmirrored_upper_end_double(angle, m, e, depth);
+}
+
 struct stripeawn_enclosure plain_enclose(int32_t m, uint32_t a,
                                          uint32_t depth)
 {
-    struct stripeawn_enclosure answer =
-        unmirrored_enclose(unmirrored(m, m), a, depth);
-    int32_t lower = answer.lower;
+    return mirror_ends(unmirrored_enclose(unmirrored(m, m < 0), a, depth),
+                       m < 0);
+}
 
-    if (m < 0) {
-        answer.lower = -answer.upper;
-        answer.upper = -lower;
-    }
-    return answer;
+struct stripeawn_enclosure plain_enclose_double(double m, double e,
+                                                uint32_t depth)
+{
+    return mirror_ends(
+        unmirrored_enclose_double(unmirrored_double(m, m < 0), e, depth),
+        m < 0);
 }
 
 struct stripeawn_proposal plain_propose(int32_t m, uint32_t a)
 {
-    struct stripeawn_proposal answer = unmirrored_propose(unmirrored(m, m), a);
+    return mirror_proposal(unmirrored_propose(unmirrored(m, m < 0), a),
+                           m < 0);
+}
 
-    if (m < 0) {
-        answer.angle = -answer.angle;
-        answer.e_sin = -answer.e_sin;
-    }
-    return answer;
+struct stripeawn_proposal plain_propose_double(double m, double e)
+{
+    return mirror_proposal(
+        unmirrored_propose_double(unmirrored_double(m, m < 0), e), m < 0);
 }
 
 struct stripeawn_verdict plain_judge(int32_t m, uint32_t a, double estimate,
                                      uint32_t n, uint32_t depth)
 {
-    return unmirrored_judge(unmirrored(m, m), a,
-                            m < 0 ? -estimate : estimate, n, depth);
+    return unmirrored_judge(unmirrored(m, m < 0), a,
+                            unmirrored_double(estimate, m < 0), n, depth);
+}
+
+struct stripeawn_verdict plain_judge_double(double m, double e,
+                                            double estimate, uint32_t n,
+                                            uint32_t depth)
+{
+    return unmirrored_judge_double(unmirrored_double(m, m < 0), e,
+                                   unmirrored_double(estimate, m < 0), n,
+                                   depth);
 }

@@ -24,4 +24,20 @@ struct stripeawn_verdict unmirrored_judge(uint32_t m, uint32_t a,
                                           double estimate, uint32_t n,
                                           uint32_t depth);
 
+/* The same of M in radians and e. */
+struct stripeawn_end unmirrored_lower_end_double(uint32_t x, double m,
+                                                 double e, uint32_t depth);
+
+struct stripeawn_end unmirrored_upper_end_double(uint32_t x, double m,
+                                                 double e, uint32_t depth);
+
+struct stripeawn_enclosure unmirrored_enclose_double(double m, double e,
+                                                     uint32_t depth);
+
+struct stripeawn_proposal unmirrored_propose_double(double m, double e);
+
+struct stripeawn_verdict unmirrored_judge_double(double m, double e,
+                                                 double estimate, uint32_t n,
+                                                 uint32_t depth);
+
 #endif

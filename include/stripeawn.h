@@ -6,15 +6,36 @@
 ** an E, this library says what is certain about it. M and E are signed and
 ** have the same sign: both are below 0 before perigee and 0 at perigee.
 **
+** Entries. Whoever has M in radians and e as doubles calls the entries whose
+** names end in _double. The grid entries, which have the same names without
+** that ending, are for those whose numbers are on the grid: M is a whole
+** number of units, and A stands for e.
+**
 ** Units. An angle is a whole number of units of 2^-28 radian. One unit is
-** 2.1344e-7 degrees, or 0.00076840 arcseconds. The eccentricity is A / 2^28
-** for a whole number A. M and A are taken as exact: every answer is about
-** the equation with just these two numbers. Rounding another M or e to the
-** grid is the caller's step, and it moves the root.
+** 2.1344e-7 degrees, or 0.00076840 arcseconds. On the grid the eccentricity
+** is A / 2^28 for a whole number A. What is given is taken as exact, on the
+** grid or as doubles: every answer is about the equation with just these two
+** numbers. Rounding another M or e to the grid moves the root, near the
+** parabolic limit by thousands of units; the double entries spare that step.
+**
+** Cell. Of doubles, M in units is rounded down to M1 and up to M2, and 2^28 e
+** down to A1 and up to A2: M1 <= M <= M2 for either sign, and no product is
+** rounded before. An answer holds for every M from M1 to M2 and every e from
+** A1 / 2^28 to A2 / 2^28, the doubles' own values among them. X is accepted
+** as an end when
+**
+**                                M not below 0          M below 0
+**     lower:   2^28 (X - M1)  <= min(A1 lo, A2 lo)   <= -max(A1 hi, A2 hi)
+**     upper:   2^28 (X - M2)  >= max(A1 hi, A2 hi)   >= -min(A1 lo, A2 lo)
+**
+** with lo and hi as stripeawn_sine gives them at the size of X. What is on
+** the grid is rounded to itself: there M1 = M2 = M and A1 = A2 = A, and
+** doubles that are on the grid get the answers of the grid entries.
 **
 ** Sides. Angles and estimates are given on M's side of 0. One opposes M where
 ** it is above 0 and M below 0, or below 0 and M is not; 0 opposes nothing,
-** nor does either zero of a double. The size of a number is that number
+** nor does either zero of a double. A double M is below 0 by its own sign,
+** as -1e-300 is; either zero is not. The size of a number is that number
 ** without its sign.
 **
 ** Ends. A lower end X is accepted when whole-number bounds of sine show that
@@ -24,8 +45,9 @@
 **
 **     X - M <= e S9(X)  (lower)    and    X - M >= e S10(X)  (upper)
 **
-** with S9 and S10 the Taylor sums of sine up to degree 19 and 21. An end
-** that is not accepted says nothing: a greater depth may accept it.
+** for every M and e of the cell, with S9 and S10 the Taylor sums of sine up
+** to degree 19 and 21. An end that is not accepted says nothing: a greater
+** depth may accept it.
 **
 ** Mirror. A negative M is the problem of -M: what is given beside it is
 ** mirrored first, and what is answered is mirrored back. With a and b the
@@ -39,25 +61,48 @@
 **
 ** Depth. How many pairs of Taylor terms the bounds use, 1 to 5. Use depth 5
 ** unless you measure: a smaller one may be faster and says less. What one
-** depth accepts every greater depth accepts. At depth 5 an end is refused
-** only where its exact inequality, the one for M's sign, fails or has less
-** than 32 e units to spare. No accepted lower end lies above an accepted
-** upper end of the same M and A, whatever the two depths.
+** depth accepts every greater depth accepts. Where M and e are on the grid,
+** depth 5 refuses an end only where its exact inequality, the one for M's
+** sign, fails or has less than 32 e units to spare; off the grid nothing like
+** it is promised, as an end has to hold for the whole cell. No accepted lower
+** end lies above an accepted upper end of the same M and e, whatever the two
+** depths.
 **
 ** Notes on every entry:
 ** 1) A result begins with a code. With a code other than 0 every other
 **    number of the result is 0 and lent buffers are as before the call.
 ** 2) Any number may be passed; one outside its limit is answered by its
-**    code. Where several codes apply, the answer is the one that stands
-**    first in the list under Status, which is in this fixed order.
+**    code. A NaN is outside every limit: as M, e or estimate it gets that
+**    one's code and is never taken for 0. Where several codes apply, the
+**    answer is the one that stands first in the list under Status, which is
+**    in this fixed order.
 ** 3) No entry keeps state, so any number of threads may call at once. None
 **    uses the heap or calls the operating system, and each ends after a
 **    bounded number of steps on a bounded stack (64 KiB is ample).
-** 4) The entries that take an estimate want the processor's usual handling
-**    of subnormal doubles. A program linked with -ffast-math may have them
-**    read as zeros; the judge then sees another estimate than the one meant.
-** 5) An unsigned M from 3451652440 (2^32 - H) up, which versions before 0.3
-**    refuse with code 1, reads as a negative M, in a record too.
+** 4) The entries that take doubles want the processor's usual handling of
+**    subnormal ones. A program linked with -ffast-math may have them read as
+**    zeros; an entry then sees another M, e or estimate than the one meant.
+** 5) On the grid an unsigned M from 3451652440 (2^32 - H) up, which versions
+**    before 0.3 refuse with code 1, reads as a negative M, in a record too.
+**
+** Notes on the double entries:
+** 1) M goes up to H = 843314856 units, which is 3.14159265160560607910 rad:
+**    STRIPEAWN_M_MAX * STRIPEAWN_UNIT, exact. M_PI as a double is
+**    843314856.53 units and so gets code 1. At 180 degrees exactly E is 180
+**    degrees, and no solver is needed; from H units to there E lies between M
+**    and pi, less than one unit apart.
+** 2) An M from 180 to 360 degrees belongs on the negative side. Subtract 360
+**    while it is in degrees, which is exact in doubles there, and convert it
+**    to radians afterwards; remainder(m, 360.0) brings any M to -180 to 180,
+**    exactly. In general, take whole turns off before converting. To convert
+**    first and subtract 2 pi afterwards is off: the double next to 2 pi is
+**    not 2 pi, and a double of that size has too few digits after the point
+**    for an M close to 0.
+** 3) A double is taken as its exact value. An error that was made before, by
+**    a conversion from degrees or of decimal digits, is inside the answer as
+**    long as it does not leave the cell; where a double is on the grid, the
+**    cell has no room for one.
+** 4) Claim records and files of them have M and A on the grid.
 */
 #ifndef STRIPEAWN_INCLUDED
 #define STRIPEAWN_INCLUDED
@@ -71,9 +116,9 @@ extern "C" {
 
 /* Version. */
 #define STRIPEAWN_VERSION_MAJOR 0
-#define STRIPEAWN_VERSION_MINOR 3
+#define STRIPEAWN_VERSION_MINOR 4
 #define STRIPEAWN_VERSION_PATCH 0
-#define STRIPEAWN_VERSION "0.3.0"
+#define STRIPEAWN_VERSION "0.4.0"
 
 /* Limits: the greatest value taken. M goes down to -H, and X to -T. */
 #define STRIPEAWN_M_MAX 843314856     /* H, the whole part of pi 2^28      */
@@ -93,8 +138,10 @@ extern "C" {
 ** 10, 4, 5, 6; in a batch, 7 and then 8 come before any record is read.
 */
 #define STRIPEAWN_DONE 0u             /* done                              */
-#define STRIPEAWN_BAD_M 1u            /* size of M above H                 */
-#define STRIPEAWN_BAD_A 2u            /* A above 2^28                      */
+#define STRIPEAWN_BAD_M 1u            /* size of M above H units; as a     */
+                                      /*   double, also NaN or infinite    */
+#define STRIPEAWN_BAD_A 2u            /* A above 2^28; e NaN, infinite,    */
+                                      /*   below 0 or above 1              */
 #define STRIPEAWN_BAD_DEPTH 3u        /* depth not 1 to 5                  */
 #define STRIPEAWN_BAD_ESTIMATE 4u     /* estimate NaN, infinite, opposing  */
                                       /*   M, or of size above T units     */
@@ -129,7 +176,7 @@ static inline const char *stripeawn_name(uint32_t number)
     switch (number) {
     case STRIPEAWN_DONE: return "done";
     case STRIPEAWN_BAD_M: return "M out of range";
-    case STRIPEAWN_BAD_A: return "A too large";
+    case STRIPEAWN_BAD_A: return "A or e out of range";
     case STRIPEAWN_BAD_DEPTH: return "depth not 1 to 5";
     case STRIPEAWN_BAD_ESTIMATE: return "estimate out of range";
     case STRIPEAWN_BAD_N: return "N too large";
@@ -200,23 +247,27 @@ struct stripeawn_batch {
 struct stripeawn_bounds stripeawn_sine(uint32_t x, uint32_t depth);
 
 /*
-** stripeawn_lower_end: is the root certainly not below x?
-** stripeawn_upper_end: is the root certainly not above x?
+** stripeawn_lower_end_double: is the root certainly not below x?
+** stripeawn_upper_end_double: is the root certainly not above x?
+** stripeawn_lower_end, stripeawn_upper_end: the same on the grid.
 **
 ** Given:
 **    x       angle to test, units, 0 to T; where m is below 0, -T to 0
-**    m       M, units, -H to H
-**    a       A, 0 to 2^28
+**    m       M, as a double in radians, of size H / 2^28 at most; on the
+**            grid in units, -H to H
+**    e       eccentricity as a double, 0 to 1; either zero counts as 0
+**    a       on the grid in place of e: A, 0 to 2^28
 **    depth   1 to 5
 ** Returned:
-**    accepted   1 where the test holds, otherwise 0
+**    accepted   1 where the test holds, otherwise 0. For doubles it is the
+**               test of their cell, which stands above; on the grid that is
 **                        m not below 0           m below 0
 **               lower:   2^28 (x - m) <= a lo    2^28 (x - m) <= -a hi
 **               upper:   2^28 (x - m) >= a hi    2^28 (x - m) >= -a lo
 **               (lo and hi as stripeawn_sine gives them at the size of x)
 ** Status:
-**    1 = size of M above H
-**    2 = A above 2^28
+**    1 = size of M above H units; as a double, also NaN or infinite
+**    2 = e NaN, infinite, below 0 or above 1; on the grid A above 2^28
 **    3 = depth not 1 to 5
 **    10 = x opposing M, or of size above T
 **    0 = done
@@ -226,6 +277,12 @@ struct stripeawn_bounds stripeawn_sine(uint32_t x, uint32_t depth);
 ** 2) Both ends may be accepted at one angle, which is then the root, or
 **    neither. The accepted angles need not be one unbroken run.
 */
+struct stripeawn_end stripeawn_lower_end_double(int32_t x, double m,
+                                                double e, uint32_t depth);
+
+struct stripeawn_end stripeawn_upper_end_double(int32_t x, double m,
+                                                double e, uint32_t depth);
+
 struct stripeawn_end stripeawn_lower_end(int32_t x, int32_t m, uint32_t a,
                                          uint32_t depth);
 
@@ -233,11 +290,14 @@ struct stripeawn_end stripeawn_upper_end(int32_t x, int32_t m, uint32_t a,
                                          uint32_t depth);
 
 /*
-** stripeawn_enclose: two angles with the root between them.
+** stripeawn_enclose_double: two angles with the root between them.
+** stripeawn_enclose: the same on the grid.
 **
 ** Given:
-**    m       M, units, -H to H
-**    a       A, 0 to 2^28
+**    m       M, as a double in radians, of size H / 2^28 at most; on the
+**            grid in units, -H to H
+**    e       eccentricity as a double, 0 to 1; either zero counts as 0
+**    a       on the grid in place of e: A, 0 to 2^28
 **    depth   1 to 5
 ** Returned:
 **    lower   an accepted lower end, where lower + 1 is not accepted or, with
@@ -245,57 +305,72 @@ struct stripeawn_end stripeawn_upper_end(int32_t x, int32_t m, uint32_t a,
 **    upper   an accepted upper end, where upper - 1 is not accepted or, with
 **            m not below 0, upper is 0
 ** Status:
-**    1 = size of M above H
-**    2 = A above 2^28
+**    1 = size of M above H units; as a double, also NaN or infinite
+**    2 = e NaN, infinite, below 0 or above 1; on the grid A above 2^28
 **    3 = depth not 1 to 5
 **    6 = T is not accepted as an upper end at this depth, or -T as a lower
 **        one where m is below 0
 **    0 = done
 ** Notes:
-** 1) Depths 4 and 5 never answer 6.
+** 1) Depths 4 and 5 never answer 6, whatever M and e are.
 ** 2) Where two depths both answer 0, the enclosure of the greater depth lies
 **    within the other.
 ** 3) Near the parabolic limit an enclosure is as wide as the problem makes
 **    it: with e close to 1 and M close to 0, one unit more in M moves the
-**    root by many thousands.
+**    root by many thousands. The cell of an M off the grid is that one unit
+**    wide: at M = 1e-5 degrees, 46.85 units, and e = 1 the ends are 2709311
+**    and 2748072.
 */
+struct stripeawn_enclosure stripeawn_enclose_double(double m, double e,
+                                                    uint32_t depth);
+
 struct stripeawn_enclosure stripeawn_enclose(int32_t m, uint32_t a,
                                              uint32_t depth);
 
 /*
-** stripeawn_propose: a shift-and-add solution, with its certificate.
+** stripeawn_propose_double: a shift-and-add solution, with its certificate.
+** stripeawn_propose: the same on the grid.
 **
 ** Given:
-**    m       M, units, -H to H
-**    a       A, 0 to 2^28
+**    m       M, as a double in radians, of size H / 2^28 at most; on the
+**            grid in units, -H to H
+**    e       eccentricity as a double, 0 to 1; either zero counts as 0
+**    a       on the grid in place of e: A, 0 to 2^28
 ** Returned:
 **    angle   the proposed E, units, 0 to T; where m is below 0, -T to 0
 **    e_sin   near e sin E, units
 **    e_cos   near e cos E, units
 **    j       the root is within 2^j units of angle
 ** Status:
-**    1 = size of M above H
-**    2 = A above 2^28
+**    1 = size of M above H units; as a double, also NaN or infinite
+**    2 = e NaN, infinite, below 0 or above 1; on the grid A above 2^28
 **    0 = done
 ** Notes:
 ** 1) j is the smallest number from 0 to 30 for which angle - 2^j is an
 **    accepted lower end and angle + 2^j an accepted upper end, both at depth
 **    5. Where one of them is past the limits of angle, the limit stands for
-**    it. Such a j always exists. Nothing more is promised of how good angle
-**    is.
+**    it. Such a j always exists, whatever M and e are. Nothing more is
+**    promised of how good angle is.
 ** 2) e_sin and e_cos are what fifty rotations with shifts 0, 0, 1, 1, up to
-**    24, 24 give. No bound of their error is promised.
+**    24, 24 give. No bound of their error is promised. Of doubles, the
+**    rotations take the size of M in units and 2^28 e, both rounded down; j
+**    is by the tests of their cell.
 ** 3) For m below 0 angle and e_sin are those of -m with their signs changed;
 **    e_cos and j are those of -m.
 */
+struct stripeawn_proposal stripeawn_propose_double(double m, double e);
+
 struct stripeawn_proposal stripeawn_propose(int32_t m, uint32_t a);
 
 /*
-** stripeawn_judge: is an estimate within n units of the root?
+** stripeawn_judge_double: is an estimate within n units of the root?
+** stripeawn_judge: the same on the grid.
 **
 ** Given:
-**    m          M, units, -H to H
-**    a          A, 0 to 2^28
+**    m          M, as a double in radians, of size H / 2^28 at most; on the
+**               grid in units, -H to H
+**    e          eccentricity as a double, 0 to 1; either zero counts as 0
+**    a          on the grid in place of e: A, 0 to 2^28
 **    estimate   angle in radians, 0 to T / 2^28; where m is below 0,
 **               -T / 2^28 to 0; either zero counts as 0
 **    n          tolerance, units, 0 to 65535
@@ -303,33 +378,39 @@ struct stripeawn_proposal stripeawn_propose(int32_t m, uint32_t a);
 ** Returned:
 **    verdict    16 Confirmed, 17 Refuted, 18 Undecided
 ** Status:
-**    1 = size of M above H
-**    2 = A above 2^28
+**    1 = size of M above H units; as a double, also NaN or infinite
+**    2 = e NaN, infinite, below 0 or above 1; on the grid A above 2^28
 **    3 = depth not 1 to 5
 **    4 = estimate NaN, infinite, opposing M, or of size above T units
 **    5 = n above 65535
 **    0 = done
 ** Notes:
 ** 1) Confirmed promises that the root is at most n units from the estimate,
-**    Refuted that it is more than n units away; both mean the estimate's
-**    exact value, on the grid or off it. Undecided promises nothing.
+**    Refuted that it is more than n units away; both mean the exact values
+**    of M, e and the estimate, on the grid or off it. Undecided promises
+**    nothing.
 ** 2) No verdict speaks of the residual E - e sin E - M, which may be small
-**    far from the root, nor of how well M and A describe an orbit.
+**    far from the root, nor of how well M and e describe an orbit.
 ** 3) A claim Confirmed or Refuted at one depth has the same verdict at every
 **    greater depth.
 ** 4) A wider tolerance may lose a verdict: M = 0, e = 1, estimate 0 is
 **    Confirmed at n = 0 and Undecided at n = 1. The verdict at n = 0 is
 **    still true, and so the root is within 1 unit too.
-** 5) After Undecided the enclosure may still decide. Let e be what
-**    stripeawn_enclose gives for the same m and a, with code 0 at any depth,
-**    and x = estimate * STRIPEAWN_RADIAN, which is exact in doubles. Since
-**    the root is not below e.lower and not above e.upper, it is certainly
-**        more than n units off    if x < e.lower - n or x > e.upper + n
-**        at most n units off      if x >= e.upper - n and x <= e.lower + n
+** 5) After Undecided the enclosure may still decide. Let r be what
+**    stripeawn_enclose_double gives for the same m and e, or on the grid
+**    stripeawn_enclose for the same m and a, with code 0 at any depth, and
+**    x = estimate * STRIPEAWN_RADIAN, which is exact in doubles. Since the
+**    root is not below r.lower and not above r.upper, it is certainly
+**        more than n units off    if x < r.lower - n or x > r.upper + n
+**        at most n units off      if x >= r.upper - n and x <= r.lower + n
 **    Take these four limits as doubles, where they are exact: in C an end,
 **    which is signed, becomes unsigned beside an unsigned n, and a limit
 **    below 0 wraps around.
 */
+struct stripeawn_verdict stripeawn_judge_double(double m, double e,
+                                                double estimate, uint32_t n,
+                                                uint32_t depth);
+
 struct stripeawn_verdict stripeawn_judge(int32_t m, uint32_t a,
                                          double estimate, uint32_t n,
                                          uint32_t depth);

@@ -1,6 +1,7 @@
 /*
 ** check.c: the counting of checks, and one comparison for each entry, which
-** goes on to the mirrored call where M is above 0.
+** goes on to the mirrored call where M is above 0 and, from the grid, to the
+** entry for doubles.
 */
 #include <inttypes.h>
 #include <stdarg.h>
@@ -49,83 +50,123 @@ static int32_t opposite(int32_t number)
     return number == INT32_MIN ? INT32_MAX : -number;
 }
 
-static void end_is(struct place at, int upper, int32_t x, int32_t m,
-                   uint32_t a, uint32_t depth, struct stripeawn_end wanted)
+static const char *way(struct given g)
 {
-    struct stripeawn_end got = upper ? stripeawn_upper_end(x, m, a, depth)
-                                     : stripeawn_lower_end(x, m, a, depth);
+    return g.is_double ? "doubles" : "grid";
+}
 
-    check(at, got.code == wanted.code && got.accepted == wanted.accepted,
-          "%s end x=%" PRId32 " m=%" PRId32 " a=%" PRIu32 " depth=%" PRIu32
+void given_end_is(struct place at, int upper, int32_t x, struct given g,
+                  uint32_t depth, uint32_t code, uint32_t accepted)
+{
+    struct stripeawn_end got = end_of(upper, x, g, depth);
+
+    check(at, got.code == code && got.accepted == accepted,
+          "%s end x=%" PRId32 ", %s m=%.17g e=%.17g depth=%" PRIu32
           ": code %" PRIu32 " accepted %" PRIu32 ", wanted %" PRIu32
           " %" PRIu32,
-          upper ? "upper" : "lower", x, m, a, depth, got.code, got.accepted,
-          wanted.code, wanted.accepted);
-    if (m > 0)
-        end_is(at, !upper, opposite(x), -m, a, depth, wanted);
+          upper ? "upper" : "lower", x, way(g), g.m, g.e, depth, got.code,
+          got.accepted, code, accepted);
+    if (g.m > 0)
+        given_end_is(at, !upper, opposite(x), mirror_of(g), depth, code,
+                     accepted);
 }
 
-void lower_is(struct place at, int32_t x, int32_t m, uint32_t a,
-              uint32_t depth, uint32_t code, uint32_t accepted)
+void given_enclosure_is(struct place at, struct given g, uint32_t depth,
+                        uint32_t code, int32_t lower, int32_t upper)
 {
-    struct stripeawn_end wanted = { code, accepted };
-
-    end_is(at, 0, x, m, a, depth, wanted);
-}
-
-void upper_is(struct place at, int32_t x, int32_t m, uint32_t a,
-              uint32_t depth, uint32_t code, uint32_t accepted)
-{
-    struct stripeawn_end wanted = { code, accepted };
-
-    end_is(at, 1, x, m, a, depth, wanted);
-}
-
-void enclosure_is(struct place at, int32_t m, uint32_t a, uint32_t depth,
-                  uint32_t code, int32_t lower, int32_t upper)
-{
-    struct stripeawn_enclosure got = stripeawn_enclose(m, a, depth);
+    struct stripeawn_enclosure got = enclosure_of(g, depth);
 
     check(at, got.code == code && got.lower == lower && got.upper == upper,
-          "enclose m=%" PRId32 " a=%" PRIu32 " depth=%" PRIu32
-          ": code %" PRIu32 " lower %" PRId32 " upper %" PRId32
-          ", wanted %" PRIu32 " %" PRId32 " %" PRId32,
-          m, a, depth, got.code, got.lower, got.upper, code, lower, upper);
-    if (m > 0)
-        enclosure_is(at, -m, a, depth, code, -upper, -lower);
+          "enclose %s m=%.17g e=%.17g depth=%" PRIu32 ": code %" PRIu32
+          " lower %" PRId32 " upper %" PRId32 ", wanted %" PRIu32 " %" PRId32
+          " %" PRId32,
+          way(g), g.m, g.e, depth, got.code, got.lower, got.upper, code,
+          lower, upper);
+    if (g.m > 0)
+        given_enclosure_is(at, mirror_of(g), depth, code, -upper, -lower);
 }
 
-void proposal_is(struct place at, int32_t m, uint32_t a,
-                 struct stripeawn_proposal wanted)
+void given_proposal_is(struct place at, struct given g,
+                       struct stripeawn_proposal wanted)
 {
-    struct stripeawn_proposal got = stripeawn_propose(m, a);
+    struct stripeawn_proposal got = proposal_of(g);
 
     check(at,
           got.code == wanted.code && got.angle == wanted.angle &&
               got.e_sin == wanted.e_sin && got.e_cos == wanted.e_cos &&
               got.j == wanted.j,
-          "propose m=%" PRId32 " a=%" PRIu32 ": code %" PRIu32
-          " angle %" PRId32 " e_sin %" PRId64 " e_cos %" PRId64 " j %" PRIu32,
-          m, a, got.code, got.angle, got.e_sin, got.e_cos, got.j);
-    if (m > 0) {
+          "propose %s m=%.17g e=%.17g: code %" PRIu32 " angle %" PRId32
+          " e_sin %" PRId64 " e_cos %" PRId64 " j %" PRIu32,
+          way(g), g.m, g.e, got.code, got.angle, got.e_sin, got.e_cos, got.j);
+    if (g.m > 0) {
         wanted.angle = -wanted.angle;
         wanted.e_sin = -wanted.e_sin;
-        proposal_is(at, -m, a, wanted);
+        given_proposal_is(at, mirror_of(g), wanted);
     }
+}
+
+void given_verdict_is(struct place at, struct given g, double estimate,
+                      uint32_t n, uint32_t depth, uint32_t code,
+                      uint32_t verdict)
+{
+    struct stripeawn_verdict got = verdict_of(g, estimate, n, depth);
+
+    check(at, got.code == code && got.verdict == verdict,
+          "judge %s m=%.17g e=%.17g estimate=%a n=%" PRIu32 " depth=%" PRIu32
+          ": code %" PRIu32 " verdict %" PRIu32 ", wanted %" PRIu32
+          " %" PRIu32,
+          way(g), g.m, g.e, estimate, n, depth, got.code, got.verdict, code,
+          verdict);
+    if (g.m > 0)
+        given_verdict_is(at, mirror_of(g), -estimate, n, depth, code,
+                         verdict);
+}
+
+static void grid_end_is(struct place at, int upper, int32_t x,
+                        struct given g, uint32_t depth, uint32_t code,
+                        uint32_t accepted)
+{
+    given_end_is(at, upper, x, g, depth, code, accepted);
+    given_end_is(at, upper, x, as_doubles(g), depth, code, accepted);
+}
+
+void lower_is(struct place at, int32_t x, int32_t m, uint32_t a,
+              uint32_t depth, uint32_t code, uint32_t accepted)
+{
+    grid_end_is(at, LOWER, x, grid(m, a), depth, code, accepted);
+}
+
+void upper_is(struct place at, int32_t x, int32_t m, uint32_t a,
+              uint32_t depth, uint32_t code, uint32_t accepted)
+{
+    grid_end_is(at, UPPER, x, grid(m, a), depth, code, accepted);
+}
+
+void enclosure_is(struct place at, int32_t m, uint32_t a, uint32_t depth,
+                  uint32_t code, int32_t lower, int32_t upper)
+{
+    struct given g = grid(m, a);
+
+    given_enclosure_is(at, g, depth, code, lower, upper);
+    given_enclosure_is(at, as_doubles(g), depth, code, lower, upper);
+}
+
+void proposal_is(struct place at, int32_t m, uint32_t a,
+                 struct stripeawn_proposal wanted)
+{
+    struct given g = grid(m, a);
+
+    given_proposal_is(at, g, wanted);
+    given_proposal_is(at, as_doubles(g), wanted);
 }
 
 void verdict_is(struct place at, int32_t m, uint32_t a, double estimate,
                 uint32_t n, uint32_t depth, uint32_t code, uint32_t verdict)
 {
-    struct stripeawn_verdict got = stripeawn_judge(m, a, estimate, n, depth);
+    struct given g = grid(m, a);
 
-    check(at, got.code == code && got.verdict == verdict,
-          "judge m=%" PRId32 " a=%" PRIu32 " estimate=%a n=%" PRIu32
-          " depth=%" PRIu32 ": code %" PRIu32 " verdict %" PRIu32
-          ", wanted %" PRIu32 " %" PRIu32,
-          m, a, estimate, n, depth, got.code, got.verdict, code, verdict);
-    if (m > 0)
-        verdict_is(at, -m, a, -estimate, n, depth, code, verdict);
+    given_verdict_is(at, g, estimate, n, depth, code, verdict);
+    given_verdict_is(at, as_doubles(g), estimate, n, depth, code, verdict);
 }
 
 double from_bits(uint64_t bits)

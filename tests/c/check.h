@@ -7,12 +7,24 @@
 #ifndef CHECK_H
 #define CHECK_H
 
+#include "given.h"
 #include "stripeawn.h"
 
 /* The limits, as the rules give them. */
 #define H INT32_C(843314856)
 #define T INT32_C(843314920)
 #define ONE INT32_C(268435456)
+
+/* The double next to pi, which C11 has no name for. */
+#define PI 3.14159265358979323846
+
+/* H units and e = 1 as doubles, and the doubles next to them and to 0. */
+#define H_DOUBLE 0x1.921fb54p+1
+#define ABOVE_H 0x1.921fb54000001p+1
+#define BELOW_H 0x1.921fb53ffffffp+1
+#define ABOVE_1 0x1.0000000000001p+0
+#define BELOW_1 0x1.fffffffffffffp-1
+#define ABOVE_0 0x1p-1074
 
 /* The farthest value of an input that has no sign. */
 #define FAR UINT32_MAX
@@ -40,6 +52,20 @@ int check_report(void);
 */
 void sine_is(struct place at, uint32_t x, uint32_t depth, uint32_t code,
              int64_t lo, int64_t hi);
+void given_end_is(struct place at, int upper, int32_t x, struct given g,
+                  uint32_t depth, uint32_t code, uint32_t accepted);
+void given_enclosure_is(struct place at, struct given g, uint32_t depth,
+                        uint32_t code, int32_t lower, int32_t upper);
+void given_proposal_is(struct place at, struct given g,
+                       struct stripeawn_proposal wanted);
+void given_verdict_is(struct place at, struct given g, double estimate,
+                      uint32_t n, uint32_t depth, uint32_t code,
+                      uint32_t verdict);
+
+/*
+** The same for M and A on the grid. The entry for doubles must return these
+** numbers too, for M and A as doubles.
+*/
 void lower_is(struct place at, int32_t x, int32_t m, uint32_t a,
               uint32_t depth, uint32_t code, uint32_t accepted);
 void upper_is(struct place at, int32_t x, int32_t m, uint32_t a,
@@ -74,6 +100,11 @@ void test_undecided(void);
 void test_mirror(void);
 void test_estimates(void);
 void test_order(void);
+void test_doubles_order(void);
+void test_doubles(void);
+void test_cells(void);
+void test_roots(void);
+void test_laws(void);
 void test_batch(void);
 void test_buffers(void);
 void test_threads(void);

@@ -2,6 +2,7 @@
 // M of either sign. Every code is held to the one that is due, 0 or another.
 #include <cstdio>
 #include <cstring>
+#include <limits>
 #include <vector>
 
 #include "stripeawn.h"
@@ -82,6 +83,50 @@ static void refused()
     check("least M", least.code, 1, least.lower == 0 && least.upper == 0);
 }
 
+// M and e as doubles, off the grid, M of either sign.
+static void doubles()
+{
+    stripeawn_end l = stripeawn_lower_end_double(169340758, 0.1, 0.9, 5);
+    stripeawn_end u = stripeawn_upper_end_double(-169340758, -0.1, 0.9, 5);
+    stripeawn_enclosure e = stripeawn_enclose_double(0.1, 0.9, 5);
+    stripeawn_enclosure mirror = stripeawn_enclose_double(-0.1, 0.9, 5);
+    stripeawn_proposal p = stripeawn_propose_double(-0.1, 0.9);
+    stripeawn_verdict v =
+        stripeawn_judge_double(0.1, 0.9, 169340769 * STRIPEAWN_UNIT, 11, 5);
+
+    check("lower_end_double", l.code, 0, l.accepted == 1);
+    check("upper_end_double", u.code, 0, u.accepted == 1);
+    check("enclose_double", e.code, 0, e.lower == 169340758 &&
+                                           e.upper == 169340780);
+    check("enclose_double, M < 0", mirror.code, 0,
+          mirror.lower == -169340780 && mirror.upper == -169340758);
+    check("propose_double, M < 0", p.code, 0,
+          p.angle == -169340770 && p.e_sin == -142497227 &&
+              p.e_cos == 195092774 && p.j == 4);
+    check("judge_double", v.code, 0, v.verdict == STRIPEAWN_CONFIRMED);
+}
+
+static void refused_doubles()
+{
+    const double nan = std::numeric_limits<double>::quiet_NaN();
+    const double top = STRIPEAWN_M_MAX * STRIPEAWN_UNIT;
+    stripeawn_end l = stripeawn_lower_end_double(1, -1e-300, 0.5, 5);
+    stripeawn_end u = stripeawn_upper_end_double(0, nan, nan, 5);
+    stripeawn_enclosure e = stripeawn_enclose_double(top, 1.0, 1);
+    stripeawn_enclosure pi =
+        stripeawn_enclose_double(3.14159265358979323846, 1.0, 5);
+    stripeawn_proposal p = stripeawn_propose_double(top, nan);
+    stripeawn_verdict v = stripeawn_judge_double(top, 1.0, nan, 0, 5);
+
+    check("bad lower_end_double", l.code, 10, l.accepted == 0);
+    check("bad upper_end_double", u.code, 1, u.accepted == 0);
+    check("bad enclose_double", e.code, 6, e.lower == 0 && e.upper == 0);
+    check("pi", pi.code, 1, pi.lower == 0 && pi.upper == 0);
+    check("bad propose_double", p.code, 2, p.angle == 0 && p.e_sin == 0 &&
+                                               p.e_cos == 0 && p.j == 0);
+    check("bad judge_double", v.code, 4, v.verdict == 0);
+}
+
 // A batch over whole vectors; the data of an empty one may be NULL.
 static void batch(const char *call, const bytes &claims, bytes &answers,
                   uint32_t due, const bytes &wanted)
@@ -125,6 +170,8 @@ int main()
     answered();
     mirrored();
     refused();
+    doubles();
+    refused_doubles();
     batches();
     names();
     return failed != 0;

@@ -94,32 +94,69 @@ static void test_limits(void)
     enclosure_is(HERE, 0, 0, FAR, 3, 0, 0);
 }
 
-/* Ends are accepted, and one unit further in is not, or opposes M. */
-static void ends_again(int32_t m, uint32_t a, uint32_t depth)
+/* T is no upper end, nor -T for M below 0 a lower one, at any lesser depth. */
+static void top_again(struct given g, uint32_t last_code, uint32_t depth)
 {
-    struct stripeawn_enclosure got = stripeawn_enclose(m, a, depth);
-    int32_t above = got.lower + 1, below = got.upper - 1;
-
-    check(HERE, got.code == 0, "no enclosure for m=%ld a=%lu", (long)m,
-          (unsigned long)a);
-    lower_is(HERE, got.lower, m, a, depth, 0, 1);
-    lower_is(HERE, above, m, a, depth, m < 0 && above > 0 ? 10 : 0, 0);
-    upper_is(HERE, got.upper, m, a, depth, 0, 1);
-    upper_is(HERE, below, m, a, depth, m >= 0 && below < 0 ? 10 : 0, 0);
+    check(HERE, depth < 4 && last_code == 6,
+          "m=%.17g e=%.17g: code 6 at depth %lu", g.m, g.e,
+          (unsigned long)depth);
+    if (g.m < 0)
+        given_end_is(HERE, LOWER, -T, g, depth, 0, 0);
+    else
+        given_end_is(HERE, UPPER, T, g, depth, 0, 0);
 }
 
-/* The entries agree. */
+/* Ends are accepted, and one unit further in is not, or opposes M. */
+static void ends_again(struct given g, struct stripeawn_enclosure got,
+                       uint32_t depth)
+{
+    int32_t above = got.lower + 1, below = got.upper - 1;
+
+    given_end_is(HERE, LOWER, got.lower, g, depth, 0, 1);
+    given_end_is(HERE, LOWER, above, g, depth,
+                 g.m < 0 && above > 0 ? 10 : 0, 0);
+    given_end_is(HERE, UPPER, got.upper, g, depth, 0, 1);
+    given_end_is(HERE, UPPER, below, g, depth,
+                 g.m >= 0 && below < 0 ? 10 : 0, 0);
+}
+
+/* The entries agree, and the enclosure of each depth is within the last. */
+static void each_depth_again(struct given g)
+{
+    struct stripeawn_enclosure last = { 6, -T, T };
+    uint32_t depth;
+
+    for (depth = 1; depth <= 5; depth++) {
+        struct stripeawn_enclosure got = enclosure_of(g, depth);
+
+        if (got.code == 6) {
+            top_again(g, last.code, depth);
+            continue;
+        }
+        check(HERE,
+              got.code == 0 && last.lower <= got.lower &&
+                  got.lower <= got.upper && got.upper <= last.upper,
+              "m=%.17g e=%.17g: code %lu, %ld to %ld at depth %lu", g.m, g.e,
+              (unsigned long)got.code, (long)got.lower, (long)got.upper,
+              (unsigned long)depth);
+        ends_again(g, got, depth);
+        last = got;
+    }
+}
+
 static void test_ends_again(void)
 {
-    uint32_t a, depth;
+    uint64_t random = 4;
+    uint32_t a, i;
     int32_t m;
 
     for (m = 0; m <= H; m += 60000011)
-        for (a = 0; a <= ONE; a += ONE / 8)
-            for (depth = 4; depth <= 5; depth++) {
-                ends_again(m, a, depth);
-                ends_again(-m, a, depth);
-            }
+        for (a = 0; a <= ONE; a += ONE / 8) {
+            each_depth_again(grid(m, a));
+            each_depth_again(grid(-m, a));
+        }
+    for (i = 0; i < 4000; i++)
+        each_depth_again(random_doubles(&random));
 }
 
 void test_enclose(void)

@@ -1,7 +1,9 @@
 /*
-** header.c: the numbers that the header names, their names in words, and the
-** layout of results.
+** header.c: the numbers that the header names, their names in words, the
+** layout of results, the types of the entries for doubles, and what the notes
+** on these say of M in degrees.
 */
+#include <math.h>
 #include <stddef.h>
 #include <stdio.h>
 #include <string.h>
@@ -100,7 +102,7 @@ static void test_version(void)
 static const char *const names[] = {
     "done",
     "M out of range",
-    "A too large",
+    "A or e out of range",
     "depth not 1 to 5",
     "estimate out of range",
     "N too large",
@@ -158,6 +160,67 @@ static void test_layout(void)
     named(HERE, offsetof(struct stripeawn_batch, count), 8);
 }
 
+/* Where a type differs, this does not compile without a warning. */
+static void test_double_entries(void)
+{
+    struct stripeawn_end (*const ends[])(int32_t, double, double, uint32_t) =
+        { stripeawn_lower_end_double, stripeawn_upper_end_double };
+    struct stripeawn_enclosure (*const enclose)(double, double, uint32_t) =
+        stripeawn_enclose_double;
+    struct stripeawn_proposal (*const propose)(double, double) =
+        stripeawn_propose_double;
+    struct stripeawn_verdict (*const judge)(double, double, double, uint32_t,
+                                            uint32_t) =
+        stripeawn_judge_double;
+
+    named(HERE, ends[LOWER](1, units(2), 0.0, 5).accepted, 1);
+    named(HERE, ends[UPPER](1, units(2), 0.0, 5).accepted, 0);
+    named(HERE, enclose(units(2), 0.0, 5).upper, 2);
+    named(HERE, propose(1.0, 2.0).code, 2);
+    named(HERE, judge(units(2), 0.0, units(3), 1, 5).verdict, 16);
+}
+
+/* H units as the header writes them out, and pi, which is above them. */
+static void test_greatest_m(void)
+{
+    double greatest = STRIPEAWN_M_MAX * STRIPEAWN_UNIT;
+    double pi = PI * STRIPEAWN_RADIAN;
+
+    check(HERE, greatest == 3.14159265160560607910 && greatest == H_DOUBLE,
+          "H units are %.20f", greatest);
+    check(HERE, pi >= 843314856.53 && pi < 843314856.54, "pi is %f", pi);
+    named(HERE, stripeawn_enclose_double(greatest, 1.0, 5).code, 0);
+    named(HERE, stripeawn_enclose_double(PI, 1.0, 5).code, 1);
+}
+
+/* 360 off an M in degrees, both with a factor of 2^45 as whole numbers. */
+static void turn_taken_off(double degrees)
+{
+    int64_t whole = (int64_t)ldexp(degrees, 45) - (INT64_C(360) << 45);
+    double off = degrees - 360;
+
+    check(HERE, ldexp(off, 45) == (double)whole && -180 <= off && off < 0,
+          "%a less 360 degrees is %a", degrees, off);
+    check(HERE, remainder(degrees, 360.0) == off, "remainder of %a",
+          degrees);
+}
+
+/* Before converting a turn comes off exactly, and afterwards it does not. */
+static void test_turns(void)
+{
+    double last = nextafter(360.0, 0.0), off = (last - 360) * (PI / 180);
+    uint64_t random = 8;
+    int i;
+
+    for (i = 0; i < 1000; i++)
+        turn_taken_off(180 + ldexp((double)(random_bits(&random) >> 11),
+                                   -53) * 180);
+    turn_taken_off(last);
+    check(HERE, remainder(-725.0, 360.0) == -5, "remainder of -725");
+    check(HERE, fabs(last * (PI / 180) - 2 * PI - off) > fabs(off) / 20,
+          "2 pi as a double is exact");
+}
+
 void test_header(void)
 {
     test_limits();
@@ -168,4 +231,7 @@ void test_header(void)
     test_version();
     test_names();
     test_layout();
+    test_double_entries();
+    test_greatest_m();
+    test_turns();
 }

@@ -16,6 +16,11 @@ int main(void)
     test_mirror();
     test_estimates();
     test_order();
+    test_doubles_order();
+    test_doubles();
+    test_cells();
+    test_roots();
+    test_laws();
     test_batch();
     test_buffers();
     test_threads();

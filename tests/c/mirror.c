@@ -120,54 +120,68 @@ static void test_limits_of_estimates(void)
     verdict_is(HERE, -H, 0, units(T), 64, 1, 4, 0);
 }
 
-static void mirrored_ends(int32_t x, int32_t m, uint32_t a, uint32_t depth)
+static void mirrored_ends(int32_t x, struct given g, uint32_t depth)
 {
-    struct stripeawn_end lower = stripeawn_lower_end(x, m, a, depth);
-    struct stripeawn_end upper = stripeawn_upper_end(x, m, a, depth);
+    struct stripeawn_end lower = end_of(LOWER, x, g, depth);
+    struct stripeawn_end upper = end_of(UPPER, x, g, depth);
 
-    upper_is(HERE, -x, -m, a, depth, lower.code, lower.accepted);
-    lower_is(HERE, -x, -m, a, depth, upper.code, upper.accepted);
+    given_end_is(HERE, UPPER, -x, mirror_of(g), depth, lower.code,
+                 lower.accepted);
+    given_end_is(HERE, LOWER, -x, mirror_of(g), depth, upper.code,
+                 upper.accepted);
 }
 
-/* A claim on the judge and as a record. */
-static void mirrored_claim(double estimate, int32_t m, uint32_t a,
-                           uint32_t depth)
+/* A claim as a record, which has M and A on the grid. */
+static void mirrored_record(double estimate, struct given g, uint32_t depth,
+                            struct stripeawn_verdict v)
 {
-    struct stripeawn_verdict v = stripeawn_judge(m, a, estimate, 7, depth);
     uint8_t claim[20], answer = 0;
 
-    verdict_is(HERE, -m, a, -estimate, 7, depth, v.code, v.verdict);
-    put_claim(claim, -m, a, -estimate, 7, depth, 0);
+    put_claim(claim, (int32_t)-g.m, (uint32_t)g.e, -estimate, 7, depth, 0);
     stripeawn_judge_claims(claim, sizeof claim, &answer, 1);
     check(HERE, answer == (v.code != 0 ? v.code : v.verdict),
-          "record of m=%ld a=%lu estimate=%a depth=%lu answered by %d",
-          (long)-m, (unsigned long)a, -estimate, (unsigned long)depth,
-          answer);
+          "record of m=%.17g a=%.17g estimate=%a depth=%lu answered by %d",
+          -g.m, g.e, -estimate, (unsigned long)depth, answer);
+}
+
+static void mirrored_claim(double estimate, struct given g, uint32_t depth)
+{
+    struct stripeawn_verdict v = verdict_of(g, estimate, 7, depth);
+
+    given_verdict_is(HERE, mirror_of(g), -estimate, 7, depth, v.code,
+                     v.verdict);
+    if (!g.is_double)
+        mirrored_record(estimate, g, depth, v);
 }
 
 /* Enclosure, and ends and claims around both its ends, or around 0. */
-static void mirrored_problem(int32_t m, uint32_t a, uint32_t depth)
+static void mirrored_problem(struct given g, uint32_t depth)
 {
-    struct stripeawn_enclosure e = stripeawn_enclose(m, a, depth);
+    struct stripeawn_enclosure e = enclosure_of(g, depth);
     int32_t off;
 
-    enclosure_is(HERE, -m, a, depth, e.code, -e.upper, -e.lower);
-    mirrored_ends(T, m, a, depth);
+    given_enclosure_is(HERE, mirror_of(g), depth, e.code, -e.upper,
+                       -e.lower);
+    mirrored_ends(T, g, depth);
     for (off = -8; off <= 8; off++) {
-        mirrored_ends(e.lower + off, m, a, depth);
-        mirrored_ends(e.upper - off, m, a, depth);
-        mirrored_claim(units(e.lower + off), m, a, depth);
-        mirrored_claim(units(e.upper - off) + units(1) / 4, m, a, depth);
+        mirrored_ends(e.lower + off, g, depth);
+        mirrored_ends(e.upper - off, g, depth);
+        mirrored_claim(units(e.lower + off), g, depth);
+        mirrored_claim(units(e.upper - off) + units(1) / 4, g, depth);
     }
 }
 
-static void mirrored_proposal(int32_t m, uint32_t a)
+/* The proposal, and the problem at every depth, good or bad. */
+static void mirrored_given(struct given g)
 {
-    struct stripeawn_proposal p = stripeawn_propose(m, a);
+    struct stripeawn_proposal p = proposal_of(g);
+    uint32_t depth;
 
     p.angle = -p.angle;
     p.e_sin = -p.e_sin;
-    proposal_is(HERE, -m, a, p);
+    given_proposal_is(HERE, mirror_of(g), p);
+    for (depth = 0; depth <= 6; depth++)
+        mirrored_problem(g, depth);
 }
 
 /* Limits and what is past them, near-parabolic orbits, and all between. */
@@ -181,15 +195,18 @@ static void test_mirrored(void)
         0, 1, 67147247, ONE / 2, 241591910, ONE - 4000, ONE - 1, ONE, ONE + 1,
         FAR
     };
-    uint32_t depth;
+    uint64_t random = 7;
     size_t i, k;
 
     for (i = 0; i < COUNT(anomalies); i++)
         for (k = 0; k < COUNT(eccentricities); k++) {
-            for (depth = 0; depth <= 6; depth++)
-                mirrored_problem(anomalies[i], eccentricities[k], depth);
-            mirrored_proposal(anomalies[i], eccentricities[k]);
+            struct given g = grid(anomalies[i], eccentricities[k]);
+
+            mirrored_given(g);
+            mirrored_given(as_doubles(g));
         }
+    for (i = 0; i < 500; i++)
+        mirrored_given(random_doubles(&random));
 }
 
 void test_mirror(void)

@@ -5,13 +5,10 @@
 ** Each input runs over good and bad values, and all inputs against each
 ** other, so that every pair of codes of an entry meets.
 */
-#include "check.h"
+#include <math.h>
 
-/* A value of an input and the code it is due, 0 for a good one. */
-struct value {
-    int64_t value;
-    uint32_t code;
-};
+#include "check.h"
+#include "order.h"
 
 static const struct value anomalies[] = {
     { 0, 0 }, { H, 0 }, { H + 1, 1 }, { INT32_MAX, 1 },
@@ -33,10 +30,10 @@ static const struct value sine_angles[] = {
 };
 
 /* Angles to test: the code of one depends on M's sign. */
-static const int32_t angles[] = { 0, T, T + 1, INT32_MAX,
-                                  -T, -T - 1, INT32_MIN };
+static const int32_t angles[] = { 0, 1, T, T + 1, INT32_MAX,
+                                  -1, -T, -T - 1, INT32_MIN };
 
-static uint32_t angle_code(int32_t x, int64_t m)
+static uint32_t angle_code(int32_t x, double m)
 {
     int opposes = m < 0 ? x > 0 : x < 0;
 
@@ -57,7 +54,7 @@ static const uint64_t estimates[] = {
 static const uint64_t signs[] = { 0, UINT64_C(0x8000000000000000) };
 
 /* No comparison holds of a NaN, and the two zeros are equal. */
-static uint32_t estimate_code(double estimate, int64_t m)
+static uint32_t estimate_code(double estimate, double m)
 {
     double size = m < 0 ? -estimate : estimate;
 
@@ -94,49 +91,49 @@ static void test_sine_order(void)
     }
 }
 
+/* An M with an eccentricity, and the first code that the two are due. */
+struct posed {
+    struct given given;
+    uint32_t code;
+};
+
 /*
-** One combination for both end tests. A good x is 0 or of size T: of the ends
-** on 0's side, which are upper ones for M below 0, 0 is one and T is none.
+** One combination for both end tests. Of the ends on 0's side, which are
+** upper ones for M below 0, 0 is always one and T is none.
 */
-static void ends_order(struct value m, struct value a, struct value d,
-                       int32_t x)
+static void ends_order(struct posed p, struct value d, int32_t x)
 {
-    uint32_t codes[] = { m.code, a.code, d.code, angle_code(x, m.value) };
+    uint32_t codes[] = { p.code, d.code, angle_code(x, p.given.m) };
     uint32_t code = first(codes, COUNT(codes));
-    struct stripeawn_end lower =
-        stripeawn_lower_end(x, m.value, a.value, d.value);
-    struct stripeawn_end upper =
-        stripeawn_upper_end(x, m.value, a.value, d.value);
-    uint32_t inner = m.value < 0 ? upper.accepted : lower.accepted;
+    struct stripeawn_end lower = end_of(LOWER, x, p.given, d.value);
+    struct stripeawn_end upper = end_of(UPPER, x, p.given, d.value);
+    uint32_t inner = p.given.m < 0 ? upper.accepted : lower.accepted;
 
     check(HERE, lower.code == code && upper.code == code,
           "end tests give %lu and %lu, wanted %lu", (unsigned long)lower.code,
           (unsigned long)upper.code, (unsigned long)code);
     check(HERE,
-          code == 0 ? inner == (x == 0)
-                    : lower.accepted == 0 && upper.accepted == 0,
+          code != 0 ? lower.accepted == 0 && upper.accepted == 0
+                    : x == 0 ? inner == 1 : inner == 0 || (x != T && x != -T),
           "end tests give %lu and %lu with code %lu",
           (unsigned long)lower.accepted, (unsigned long)upper.accepted,
           (unsigned long)code);
 }
 
-static void test_ends_order(void)
+/* H units, e = 1, depth 1 are due code 6, and all that is rounded up to it. */
+static int has_no_upper_end(struct given g, double depth)
 {
-    size_t m, a, d, x;
+    struct given d = as_doubles(g);
 
-    EACH(m, anomalies) EACH(a, eccentricities) EACH(d, depths) EACH(x, angles)
-        ends_order(anomalies[m], eccentricities[a], depths[d], angles[x]);
+    return ceil(fabs(d.m) * ONE) == H && ceil(d.e * ONE) == ONE && depth == 1;
 }
 
-/* H or -H, A = 2^28, depth 1 is due code 6, which comes after all others. */
-static void enclose_order(struct value m, struct value a, struct value d)
+static void enclose_order(struct posed p, struct value d)
 {
-    int top = (m.value == H || m.value == -H) && a.value == ONE;
-    uint32_t codes[] = { m.code, a.code, d.code,
-                         top && d.value == 1 ? 6 : 0 };
+    uint32_t codes[] = { p.code, d.code,
+                         has_no_upper_end(p.given, d.value) ? 6 : 0 };
     uint32_t code = first(codes, COUNT(codes));
-    struct stripeawn_enclosure got =
-        stripeawn_enclose(m.value, a.value, d.value);
+    struct stripeawn_enclosure got = enclosure_of(p.given, d.value);
 
     check(HERE, got.code == code, "enclose gives %lu, wanted %lu",
           (unsigned long)got.code, (unsigned long)code);
@@ -144,41 +141,26 @@ static void enclose_order(struct value m, struct value a, struct value d)
           "enclose gives numbers with code %lu", (unsigned long)code);
 }
 
-static void test_enclose_order(void)
+static void propose_order(struct posed p)
 {
-    size_t m, a, d;
+    struct stripeawn_proposal got = proposal_of(p.given);
 
-    EACH(m, anomalies) EACH(a, eccentricities) EACH(d, depths)
-        enclose_order(anomalies[m], eccentricities[a], depths[d]);
+    check(HERE, got.code == p.code, "propose gives %lu, wanted %lu",
+          (unsigned long)got.code, (unsigned long)p.code);
+    check(HERE,
+          p.code == 0 || (got.angle == 0 && got.e_sin == 0 &&
+                          got.e_cos == 0 && got.j == 0),
+          "propose gives numbers with code %lu", (unsigned long)p.code);
 }
 
-static void test_propose_order(void)
+static void judge_order(struct posed p, struct value d, double estimate,
+                        struct value n)
 {
-    size_t m, a;
-
-    EACH(m, anomalies) EACH(a, eccentricities) {
-        uint32_t codes[] = { anomalies[m].code, eccentricities[a].code };
-        uint32_t code = first(codes, COUNT(codes));
-        struct stripeawn_proposal got = stripeawn_propose(
-            anomalies[m].value, eccentricities[a].value);
-
-        check(HERE, got.code == code, "propose gives %lu, wanted %lu",
-              (unsigned long)got.code, (unsigned long)code);
-        check(HERE,
-              code == 0 || (got.angle == 0 && got.e_sin == 0 &&
-                            got.e_cos == 0 && got.j == 0),
-              "propose gives numbers with code %lu", (unsigned long)code);
-    }
-}
-
-static void judge_order(struct value m, struct value a, struct value d,
-                        double estimate, struct value n)
-{
-    uint32_t codes[] = { m.code, a.code, d.code,
-                         estimate_code(estimate, m.value), n.code };
+    uint32_t codes[] = { p.code, d.code, estimate_code(estimate, p.given.m),
+                         n.code };
     uint32_t code = first(codes, COUNT(codes));
     struct stripeawn_verdict got =
-        stripeawn_judge(m.value, a.value, estimate, n.value, d.value);
+        verdict_of(p.given, estimate, n.value, d.value);
 
     check(HERE, got.code == code, "judge gives %lu, wanted %lu",
           (unsigned long)got.code, (unsigned long)code);
@@ -189,14 +171,35 @@ static void judge_order(struct value m, struct value a, struct value d,
           (unsigned long)code);
 }
 
-static void test_judge_order(void)
+static void posed_order(struct posed p)
 {
-    size_t m, a, d, e, s, n;
+    size_t d, x, e, s, n;
 
-    EACH(m, anomalies) EACH(a, eccentricities) EACH(d, depths)
+    propose_order(p);
+    EACH(d, depths) {
+        enclose_order(p, depths[d]);
+        EACH(x, angles)
+            ends_order(p, depths[d], angles[x]);
         EACH(e, estimates) EACH(s, signs) EACH(n, tolerances)
-            judge_order(anomalies[m], eccentricities[a], depths[d],
-                        from_bits(estimates[e] | signs[s]), tolerances[n]);
+            judge_order(p, depths[d], from_bits(estimates[e] | signs[s]),
+                        tolerances[n]);
+    }
+}
+
+void test_way(struct way way)
+{
+    size_t m, e;
+
+    for (m = 0; m < way.m_count; m++)
+        for (e = 0; e < way.e_count; e++) {
+            uint32_t codes[] = { way.m[m].code, way.e[e].code };
+            struct posed p = {
+                { way.is_double, way.m[m].value, way.e[e].value },
+                first(codes, COUNT(codes))
+            };
+
+            posed_order(p);
+        }
 }
 
 /* A record with every mixture of faults; its N cannot be too great. */
@@ -231,10 +234,10 @@ static void test_record_order(void)
 
 void test_order(void)
 {
+    struct way on_grid = { 0, anomalies, COUNT(anomalies), eccentricities,
+                           COUNT(eccentricities) };
+
     test_sine_order();
-    test_ends_order();
-    test_enclose_order();
-    test_propose_order();
-    test_judge_order();
+    test_way(on_grid);
     test_record_order();
 }

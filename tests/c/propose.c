@@ -1,6 +1,8 @@
 /*
 ** propose.c: the shift-and-add proposal and its certificate.
 */
+#include <math.h>
+
 #include "check.h"
 
 struct stated {
@@ -58,42 +60,65 @@ static void test_table(const struct stated *table, size_t count)
 ** Whether the width 2^j around the angle is accepted at depth 5. No end goes
 ** past 0 or past T, on the side of M.
 */
-static int certified(int32_t angle, int32_t m, uint32_t a, uint32_t j)
+static int certified(int32_t angle, struct given g, uint32_t j)
 {
     int32_t width = INT32_C(1) << j;
-    int32_t least = m < 0 ? -T : 0, greatest = m < 0 ? 0 : T;
+    int32_t least = g.m < 0 ? -T : 0, greatest = g.m < 0 ? 0 : T;
     int32_t low = angle - least > width ? angle - width : least;
     int32_t high = greatest - angle > width ? angle + width : greatest;
 
-    return stripeawn_lower_end(low, m, a, 5).accepted &&
-           stripeawn_upper_end(high, m, a, 5).accepted;
+    return end_of(LOWER, low, g, 5).accepted &&
+           end_of(UPPER, high, g, 5).accepted;
 }
 
 /* By the library's own end tests: j is accepted and no smaller one is. */
-static void smallest_certificate(int32_t m, uint32_t a)
+static void smallest_certificate(struct given g)
 {
-    struct stripeawn_proposal got = stripeawn_propose(m, a);
-    int32_t size = m < 0 ? -got.angle : got.angle;
+    struct stripeawn_proposal got = proposal_of(g);
+    int32_t size = g.m < 0 ? -got.angle : got.angle;
     uint32_t j;
 
     check(HERE, got.code == 0 && size >= 0 && size <= T && got.j <= 30,
-          "propose m=%ld a=%lu", (long)m, (unsigned long)a);
+          "propose m=%.17g e=%.17g", g.m, g.e);
     for (j = 0; j <= got.j && j <= 30; j++)
-        check(HERE, certified(got.angle, m, a, j) == (j == got.j),
-              "certificate %lu of m=%ld a=%lu is not the smallest",
-              (unsigned long)got.j, (long)m, (unsigned long)a);
+        check(HERE, certified(got.angle, g, j) == (j == got.j),
+              "certificate %lu of m=%.17g e=%.17g is not the smallest",
+              (unsigned long)got.j, g.m, g.e);
 }
 
 static void test_smallest_certificate(void)
 {
-    uint32_t a;
+    uint64_t random = 5;
+    uint32_t a, i;
     int32_t m;
 
     for (m = 0; m <= H; m += 30000001)
         for (a = 0; a <= ONE; a += ONE / 16) {
-            smallest_certificate(m, a);
-            smallest_certificate(-m, a);
+            smallest_certificate(grid(m, a));
+            smallest_certificate(grid(-m, a));
         }
+    for (i = 0; i < 4000; i++)
+        smallest_certificate(random_doubles(&random));
+}
+
+/*
+** The rotations take the size of M and A rounded down: on the grid all but j
+** is the same there.
+*/
+static void test_rounded_down(void)
+{
+    uint64_t random = 6;
+    uint32_t i;
+
+    for (i = 0; i < 4000; i++) {
+        struct given g = random_doubles(&random);
+        double m = fabs(g.m);
+        struct stripeawn_proposal wanted =
+            stripeawn_propose((int32_t)(m * ONE), (uint32_t)(g.e * ONE));
+
+        wanted.j = proposal_of(g).j;
+        given_proposal_is(HERE, doubles(m, g.e), wanted);
+    }
 }
 
 void test_propose(void)
@@ -102,4 +127,5 @@ void test_propose(void)
     test_table(below_zero, COUNT(below_zero));
     test_table(refused, COUNT(refused));
     test_smallest_certificate();
+    test_rounded_down();
 }

@@ -5,6 +5,7 @@
 */
 #define _GNU_SOURCE /* for PTHREAD_STACK_MIN, which need not be a constant */
 #include <limits.h>
+#include <math.h>
 #include <pthread.h>
 
 #include "check.h"
@@ -12,33 +13,48 @@
 enum { THREADS = 4, ORBITS = 200, STACK = 65536 };
 
 /* Sums of everything that one pass over the entries returns. */
-struct totals {
-    uint64_t sine, ends, enclosures, proposals, verdicts, answers;
+struct sums {
+    uint64_t ends, enclosures, proposals, verdicts;
 };
 
+struct totals {
+    uint64_t sine, answers;
+    struct sums on_grid, of_doubles;
+};
+
+/* The entries that take M, on the grid or as doubles. */
+static void add_given(struct sums *t, struct given g, uint32_t depth)
+{
+    struct stripeawn_enclosure e = enclosure_of(g, depth);
+    struct stripeawn_proposal p = proposal_of(g);
+
+    t->ends += end_of(LOWER, p.angle, g, depth).accepted * 3 +
+               end_of(UPPER, p.angle, g, depth).accepted;
+    t->enclosures += (uint64_t)e.lower * 3 + (uint64_t)e.upper;
+    t->proposals += (uint64_t)p.angle + (uint64_t)p.e_sin * 3 +
+                    (uint64_t)p.e_cos * 5 + p.j;
+    t->verdicts += verdict_of(g, units(p.angle), depth * 9, depth).verdict;
+}
+
+/* All entries; M and e as doubles are a third of a unit off the grid. */
 static void add_orbit(struct totals *t, int32_t m, uint32_t a, uint32_t depth)
 {
     struct stripeawn_bounds s = stripeawn_sine(m < 0 ? -m : m, depth);
-    struct stripeawn_enclosure e = stripeawn_enclose(m, a, depth);
-    struct stripeawn_proposal p = stripeawn_propose(m, a);
-    double estimate = units(p.angle);
+    double estimate = units(stripeawn_propose(m, a).angle);
+    struct given off = doubles((m - 1.0 / 3) / ONE, fabs(a - 1.0 / 3) / ONE);
     uint8_t claim[20], answer = 0;
 
     put_claim(claim, m, a, estimate, depth * 9, depth, 0);
     stripeawn_judge_claims(claim, 20, &answer, 1);
     t->sine += (uint64_t)s.lo * 3 + (uint64_t)s.hi;
-    t->ends += stripeawn_lower_end(p.angle, m, a, depth).accepted * 3 +
-               stripeawn_upper_end(p.angle, m, a, depth).accepted;
-    t->enclosures += (uint64_t)e.lower * 3 + (uint64_t)e.upper;
-    t->proposals += (uint64_t)p.angle + (uint64_t)p.e_sin * 3 +
-                    (uint64_t)p.e_cos * 5 + p.j;
-    t->verdicts += stripeawn_judge(m, a, estimate, depth * 9, depth).verdict;
     t->answers += answer;
+    add_given(&t->on_grid, grid(m, a), depth);
+    add_given(&t->of_doubles, off, depth);
 }
 
 static void *run(void *given)
 {
-    struct totals *t = given, none = { 0, 0, 0, 0, 0, 0 };
+    struct totals *t = given, none = { 0, 0, { 0, 0, 0, 0 }, { 0, 0, 0, 0 } };
     uint32_t i, random = 1;
 
     *t = none;
@@ -51,11 +67,17 @@ static void *run(void *given)
     return NULL;
 }
 
+static int same_sums(struct sums s, struct sums t)
+{
+    return s.ends == t.ends && s.enclosures == t.enclosures &&
+           s.proposals == t.proposals && s.verdicts == t.verdicts;
+}
+
 static int same(const struct totals *s, const struct totals *t)
 {
-    return s->sine == t->sine && s->ends == t->ends &&
-           s->enclosures == t->enclosures && s->proposals == t->proposals &&
-           s->verdicts == t->verdicts && s->answers == t->answers;
+    return s->sine == t->sine && s->answers == t->answers &&
+           same_sums(s->on_grid, t->on_grid) &&
+           same_sums(s->of_doubles, t->of_doubles);
 }
 
 static size_t stack_size(void)
@@ -73,8 +95,10 @@ void test_threads(void)
     int i, started = 0;
 
     run(&alone);
-    check(HERE, alone.answers == alone.verdicts && alone.answers > 0,
+    check(HERE, alone.answers == alone.on_grid.verdicts && alone.answers > 0,
           "batch and judge differ");
+    check(HERE, alone.of_doubles.verdicts >= 16 * ORBITS,
+          "not every orbit as doubles is judged");
     pthread_attr_init(&small);
     check(HERE, pthread_attr_setstacksize(&small, stack_size()) == 0,
           "no stack of %lu bytes", (unsigned long)stack_size());

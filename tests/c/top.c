@@ -5,6 +5,8 @@
 ** Every row is a turning point, so that a library which tests T - 1, T + 1
 ** or H in place of T answers at least one of these calls otherwise.
 */
+#include <math.h>
+
 #include "check.h"
 
 /* The last A at which T is an upper end, and the last at which T - 1 is. */
@@ -61,6 +63,23 @@ static void only_deeper(int32_t m, uint32_t a, uint32_t depth)
     check(HERE, stripeawn_enclose(m, a, 5).code == 0, "code 6 at depth 5");
 }
 
+/* Two doubles next to a turning point: T is the upper end of one alone. */
+static void doubles_beside(struct given below, struct given above,
+                           uint32_t depth)
+{
+    struct stripeawn_enclosure got = enclosure_of(below, depth);
+    struct stripeawn_enclosure mirrored =
+        enclosure_of(mirror_of(below), depth);
+
+    check(HERE,
+          got.code == 0 && got.upper == T && mirrored.code == 0 &&
+              mirrored.lower == -T,
+          "m=%.17g e=%.17g depth=%lu: code %lu, upper end %ld", below.m,
+          below.e, (unsigned long)depth, (unsigned long)got.code,
+          (long)got.upper);
+    given_enclosure_is(HERE, above, depth, 6, 0, 0);
+}
+
 /* One A further, T is no end any more; its neighbours turn elsewhere. */
 static void test_turns_of_a(void)
 {
@@ -68,7 +87,10 @@ static void test_turns_of_a(void)
 
     for (i = 0; i < COUNT(turns_of_a); i++) {
         struct turn at = turns_of_a[i];
+        struct given d = as_doubles(grid(at.m, at.a));
 
+        doubles_beside(doubles(d.m, nextafter(d.e, 0.0)),
+                       doubles(d.m, nextafter(d.e, 2.0)), at.depth);
         enclosure_is(HERE, at.m, at.a, at.depth, 0, at.low, T);
         only_deeper(at.m, at.a + 1, at.depth);
         upper_is(HERE, T, at.m, at.a, at.depth, 0, 1);
@@ -88,7 +110,10 @@ static void test_turns_of_m(void)
 
     for (i = 0; i < COUNT(turns_of_m); i++) {
         struct last at = turns_of_m[i];
+        struct given d = as_doubles(grid(at.m, at.a));
 
+        doubles_beside(doubles(nextafter(d.m, 0.0), d.e),
+                       doubles(nextafter(d.m, 4.0), d.e), at.depth);
         enclosure_is(HERE, at.m, at.a, at.depth, 0, at.low, T);
         only_deeper(at.m + 1, at.a, at.depth);
         upper_is(HERE, T, at.m, at.a, at.depth, 0, 1);

@@ -1,0 +1,45 @@
+/*
+** answers.c: answers of both sides, number by number, and how many differ.
+*/
+#include <stdio.h>
+
+#include "answers.h"
+
+enum { SHOWN = 5 };
+
+static unsigned long compared, different;
+
+int same_ends(struct stripeawn_end s, struct stripeawn_end p)
+{
+    return s.code == p.code && s.accepted == p.accepted;
+}
+
+int same_enclosures(struct stripeawn_enclosure s,
+                    struct stripeawn_enclosure p)
+{
+    return s.code == p.code && s.lower == p.lower && s.upper == p.upper;
+}
+
+int same_proposals(struct stripeawn_proposal s, struct stripeawn_proposal p)
+{
+    return s.code == p.code && s.angle == p.angle && s.e_sin == p.e_sin &&
+           s.e_cos == p.e_cos && s.j == p.j;
+}
+
+int same_verdicts(struct stripeawn_verdict s, struct stripeawn_verdict p)
+{
+    return s.code == p.code && s.verdict == p.verdict;
+}
+
+int to_be_shown(int same)
+{
+    compared++;
+    return !same && different++ < SHOWN;
+}
+
+int none_differ(void)
+{
+    printf("%lu calls and answers compared on both sides, %lu differ\n",
+           compared, different);
+    return different == 0;
+}

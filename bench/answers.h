@@ -1,0 +1,25 @@
+/*
+** answers.h: answers of both sides, held against each other and counted.
+*/
+#ifndef ANSWERS_H
+#define ANSWERS_H
+
+#include "stripeawn.h"
+
+/* 1 where all numbers of both answers are equal. */
+int same_ends(struct stripeawn_end s, struct stripeawn_end p);
+
+int same_enclosures(struct stripeawn_enclosure s,
+                    struct stripeawn_enclosure p);
+
+int same_proposals(struct stripeawn_proposal s, struct stripeawn_proposal p);
+
+int same_verdicts(struct stripeawn_verdict s, struct stripeawn_verdict p);
+
+/* Counts a comparison; 1 where it is one of the first that differ. */
+int to_be_shown(int same);
+
+/* Prints the counts; 1 if nothing differs. */
+int none_differ(void);
+
+#endif
