@@ -189,29 +189,43 @@ fn end_test(x: i32, posed: CodedProblem, upper: bool) -> End
     flag(accepted(problem, angle, orbit::mirror_end(upper, mirrored)))
 }
 
+// Of M and A on the grid.
+fn test_grid(x: i32, m: i32, a: u32, depth: u32, upper: bool) -> End
+    ensures { λ r. ⌜ r ≡ endRule upper x (grid m a) depth ⌝ }
+{
+    end_test(x, Problem::new(m, a, depth), upper)
+}
+
+// R60: of M in radians and e as doubles.
+fn test_doubles(x: i32, m: f64, e: f64, depth: u32, upper: bool) -> End
+    ensures { λ r. ⌜ r ≡ endRule upper x (doubles m e) depth ⌝ }
+{
+    end_test(x, Problem::of_doubles(m, e, depth), upper)
+}
+
 // Whether x is an accepted lower end, or the code of what is out of limits: 1, 2, 3, then 10.
 pub fn lower_end(x: i32, m: i32, a: u32, depth: u32) -> End
     ensures { λ r. ⌜ r ≡ lowerRule x (grid m a) depth ⌝ }
 {
-    end_test(x, Problem::new(m, a, depth), false)
+    test_grid(x, m, a, depth, false)
 }
 
 // Whether x is an accepted upper end, or the code of what is out of limits: 1, 2, 3, then 10.
 pub fn upper_end(x: i32, m: i32, a: u32, depth: u32) -> End
     ensures { λ r. ⌜ r ≡ upperRule x (grid m a) depth ⌝ }
 {
-    end_test(x, Problem::new(m, a, depth), true)
+    test_grid(x, m, a, depth, true)
 }
 
 // R60: the same of M in radians and e as doubles.
 pub fn lower_end_double(x: i32, m: f64, e: f64, depth: u32) -> End
     ensures { λ r. ⌜ r ≡ lowerRule x (doubles m e) depth ⌝ }
 {
-    end_test(x, Problem::of_doubles(m, e, depth), false)
+    test_doubles(x, m, e, depth, false)
 }
 
 pub fn upper_end_double(x: i32, m: f64, e: f64, depth: u32) -> End
     ensures { λ r. ⌜ r ≡ upperRule x (doubles m e) depth ⌝ }
 {
-    end_test(x, Problem::of_doubles(m, e, depth), true)
+    test_doubles(x, m, e, depth, true)
 }

@@ -30,19 +30,12 @@ pub pos-le : {a b : ℕ} → a ≤ b → pos a ≤ℤ pos b
 pos-le {a} {b} h = le-parts (is-pos a) (is-pos b) .1 (omega arith)
 
 -- a double and its mirror have one size
-same-product : (t : Bool) (x : Float) → product (mirrorDouble t x) ≡ product x
+same-size : (t : Bool) (x : Float) → (product (mirrorDouble t x) ≡ product x) × (den (mirrorDouble t x) ≡ den x)
 unfolding neg
-same-product false x = refl
-same-product true nan = refl
-same-product true (inf s) = refl
-same-product true (fin s m e) = refl
-
-same-den : (t : Bool) (x : Float) → den (mirrorDouble t x) ≡ den x
-unfolding neg
-same-den false x = refl
-same-den true nan = refl
-same-den true (inf s) = refl
-same-den true (fin s m e) = refl
+same-size false x = (refl, refl)
+same-size true nan = (refl, refl)
+same-size true (inf s) = (refl, refl)
+same-size true (fin s m e) = (refl, refl)
 
 pub own-possible : (g : Given) → Possible g (exactOf g)
 own-possible (grid m a) =
@@ -56,11 +49,12 @@ own-possible (grid m a) =
     }
 own-possible (doubles m e) =
     let t = belowZero m in
+    let (products, dens) = same-size t m in
     record {
       over-q = den-pos m;
       over-s = den-pos e;
-      m-least = rw (back t (product m), same-product t m, same-den t m) (pos-le (down-le (product m) (den m)));
-      m-most = rw (back t (product m), same-product t m, same-den t m) (pos-le (le-up (product m) (den m) (den-pos m)));
+      m-least = rw (back t (product m), products, dens) (pos-le (down-le (product m) (den m)));
+      m-most = rw (back t (product m), products, dens) (pos-le (le-up (product m) (den m) (den-pos m)));
       a-least = down-le (product e) (den e);
       a-most = le-up (product e) (den e) (den-pos e);
     }
