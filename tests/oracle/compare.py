@@ -5,37 +5,66 @@
 SEED is a whole number, or 'time' for one from the clock. DRIVER is the
 command that runs driver.c linked with the library. Any difference is printed
 with its case, and the exit status is then 1. So it is where too few of the
-random cases or of the exact facts had a negative M.
+random cases or of the exact facts had a negative M, or too few pairs of M and
+e as doubles were drawn for either.
 """
 import random
 import sys
 import time
 from collections import Counter
+from dataclasses import dataclass, field
+from functools import partial
 from multiprocessing import Pool
 
 import cases
-import demands
 import edges
+import facts
 import records
 import rules
 import stated
 import wire
+from given import Doubles
 
 PROCESSES = 2
 SHOWN = 20
-# Random cases, and exact facts, of which each run has to have that many.
+# Random cases, and exact facts, of which each run has to have that many with
+# a negative M; and different pairs of doubles, in the cases and the facts.
 NEGATIVE_LEAST = 100_000
+PAIRS_LEAST = 100_000
 
 RULES = {
     wire.SINE: lambda c: rules.sine(c.x, c.depth),
-    wire.LOWER_END: lambda c: rules.lower_end(c.x, c.m, c.a, c.depth),
-    wire.UPPER_END: lambda c: rules.upper_end(c.x, c.m, c.a, c.depth),
-    wire.ENCLOSE: lambda c: rules.enclose(c.m, c.a, c.depth),
-    wire.PROPOSE: lambda c: rules.propose(c.m, c.a),
-    wire.JUDGE: lambda c: rules.judge(c.m, c.a, c.bits, c.n, c.depth),
+    wire.LOWER_END: lambda c: rules.lower_end(c.x, c.given, c.depth),
+    wire.UPPER_END: lambda c: rules.upper_end(c.x, c.given, c.depth),
+    wire.ENCLOSE: lambda c: rules.enclose(c.given, c.depth),
+    wire.PROPOSE: lambda c: rules.propose(c.given),
+    wire.JUDGE: lambda c: rules.judge(c.given, c.bits, c.n, c.depth),
     wire.BATCH: lambda c: (*records.judge_claims(
         c.claims, c.answers, c.answers_len), c.claims),
 }
+
+
+@dataclass
+class Found:
+    """What was counted, how much of that had a negative M, the different
+    pairs of doubles, and what is wrong. Of facts only those pairs count that
+    were held against the true root."""
+    counts: Counter = field(default_factory=Counter)
+    negative: int = 0
+    pairs: set = field(default_factory=set)
+    faults: list = field(default_factory=list)
+
+    def add(self, other):
+        self.counts += other.counts
+        self.negative += other.negative
+        self.pairs |= other.pairs
+        self.faults += other.faults
+
+
+def pairs_in(every_given):
+    """The pairs of doubles among what was given."""
+    return {(given.m, given.e) for given in every_given
+            if isinstance(given, Doubles)}
 
 
 def differences(call, wanted, got):
@@ -43,21 +72,23 @@ def differences(call, wanted, got):
     with 0 what an entry does not give."""
     if got == wanted + (0,) * (len(got) - len(wanted)):
         return []
-    given = ", ".join(
+    inputs = ", ".join(
         f"{name}={value.hex() if isinstance(value, bytes) else value}"
-        for name, value in call._asdict().items() if name != "entry")
-    return [f"{wire.NAMES[call.entry]}({given}): wanted {wanted}, "
-            f"the library gives {got}"]
+        for name, value in call._asdict().items()
+        if name not in ("entry", "given"))
+    return [f"{wire.name(call)} of {call.given} and {inputs}: wanted {wanted},"
+            f" the library gives {got}"]
 
 
 def compare(driver, calls):
-    """How often each entry was compared, how many calls had a negative M
-    (those with buffers not counted), and the differences."""
+    """Each call by the rules and by the library. Calls with buffers are not
+    counted as having a negative M."""
     faults = []
     for call, got in zip(calls, wire.ask(driver, calls)):
         faults += differences(call, RULES[call.entry](call), got)
-    negative = sum(call.entry != wire.BATCH and call.m < 0 for call in calls)
-    return Counter(wire.NAMES[call.entry] for call in calls), negative, faults
+    return Found(Counter(map(wire.name, calls)),
+                 sum(call.given.negative for call in calls),
+                 pairs_in(call.given for call in calls), faults)
 
 
 def compare_stated(driver):
@@ -68,70 +99,81 @@ def compare_stated(driver):
         faults += differences(call, answer, got)
         if RULES[call.entry](call) != answer:
             faults.append(f"the rules of this folder miss {answer} at {call}")
-    return Counter(numbers=len(calls)), 0, faults
+    return Found(Counter(numbers=len(calls)), faults=faults)
 
 
-def check_demand(driver, check, rng, count):
-    """How many facts were looked at, how many of them for a negative M, and
-    those that do not hold."""
-    facts, negative, faults = 0, 0, []
-    for m, true, sentence in check(lambda calls: wire.ask(driver, calls), rng,
-                                   count):
-        facts += 1
-        negative += m < 0
+def check_facts(driver, check, rng, count):
+    """How many facts were looked at, and those that do not hold."""
+    found, with_root = Found(), []
+    for given, true, sentence, *root in check(partial(wire.ask, driver), rng,
+                                              count):
+        found.counts["facts"] += 1
+        found.negative += given is not None and given.negative
+        with_root += [given] if root else []
         if not true:
-            faults.append(f"not as demanded: {sentence}")
-    return Counter(facts=facts), negative, faults
+            found.faults.append(
+                " ".join(map(str, ("not as demanded of", given, sentence,
+                                   *root))))
+    found.pairs = pairs_in(with_root)
+    return found
 
 
 def work(piece):
-    """One piece of work: its group, what it counted, how much of that had a
-    negative M, and what it found wrong."""
+    """One piece of work: its group, and what it found."""
     driver, seed, group, kind, number, count = piece
     rng = random.Random(f"{seed} {group} {kind} {number}")
     if group == "stated":
-        return group, *compare_stated(driver)
+        return group, compare_stated(driver)
     if group == "edge":
-        return group, *compare(driver, edges.KINDS[kind]())
+        return group, compare(driver, edges.KINDS[kind]())
     if group == "exact":
-        return group, *check_demand(driver, demands.KINDS[kind][0], rng, count)
+        return group, check_facts(driver, facts.KINDS[kind][0], rng, count)
     draw = cases.KINDS[kind][0]
-    return group, *compare(driver, [draw(rng) for _ in range(count)])
+    return group, compare(driver, [draw(rng) for _ in range(count)])
 
 
 def pieces(driver, seed):
     yield driver, seed, "stated", "", 0, 0
     for kind in edges.KINDS:
         yield driver, seed, "edge", kind, 0, 0
-    for group, kinds in (("random", cases.KINDS), ("exact", demands.KINDS)):
+    for group, kinds in (("random", cases.KINDS), ("exact", facts.KINDS)):
         for kind, (_, total, each) in kinds.items():
             for number in range(0, total, each):
                 yield driver, seed, group, kind, number, each
 
 
-def too_few(negative):
-    """A sentence for each group that had too few of a negative M."""
-    return [f"too few {group} checks with negative M: {negative[group]:,}"
+def too_few(totals):
+    """A sentence for each group that had too few of a kind."""
+    return [f"too few {group} checks with {what}: {count:,}"
             for group in ("random", "exact")
-            if negative[group] < NEGATIVE_LEAST]
+            for count, least, what in (
+                (totals[group].negative, NEGATIVE_LEAST, "negative M"),
+                (len(totals[group].pairs), PAIRS_LEAST, "doubles"))
+            if count < least]
 
 
-def report(totals, negative, faults, seconds):
+def report(totals, faults, seconds):
+    random_found, edge, exact = (totals[group] for group in
+                                 ("random", "edge", "exact"))
     for group in ("edge", "random"):
-        parts = (f"{count:,} {name}" for name, count in totals[group].items())
+        parts = (f"{count:,} {name}"
+                 for name, count in totals[group].counts.items())
         print(f"compare: {group} cases: {', '.join(sorted(parts))}")
-    print(f"compare: with negative M: {negative['random']:,} random cases, "
-          f"{negative['edge']:,} edge cases and {negative['exact']:,} exact "
-          "facts")
+    print(f"compare: with negative M: {random_found.negative:,} random cases, "
+          f"{edge.negative:,} edge cases and {exact.negative:,} exact facts")
+    print(f"compare: different pairs of doubles: {len(random_found.pairs):,} "
+          f"in random cases, {len(edge.pairs):,} in edge cases and "
+          f"{len(exact.pairs):,} held against the true root in exact facts")
     for sentence in faults[:SHOWN]:
         print(f"compare: DIFFERENT: {sentence}")
     if len(faults) > SHOWN:
         print(f"compare: and {len(faults) - SHOWN:,} more")
-    drawn, edge, stated, facts = (sum(totals[group].values()) for group in
-                                  ("random", "edge", "stated", "exact"))
-    print(f"compare: {drawn:,} random cases, {edge:,} edge cases, {stated} "
-          f"stated numbers and {facts:,} exact facts in {seconds} s: "
-          f"{len(faults):,} differences")
+    drawn, edges_seen, stated_seen, facts_seen = (
+        sum(totals[group].counts.values()) for group in
+        ("random", "edge", "stated", "exact"))
+    print(f"compare: {drawn:,} random cases, {edges_seen:,} edge cases, "
+          f"{stated_seen:,} stated numbers and {facts_seen:,} exact facts in "
+          f"{seconds} s: {len(faults):,} differences")
 
 
 def main(arguments):
@@ -141,15 +183,14 @@ def main(arguments):
     seed = time.time_ns() if arguments[0] == "time" else int(arguments[0])
     start = time.monotonic_ns()
     print(f"compare: seed {seed}", flush=True)
-    totals, negative, faults = {}, Counter(), []
+    totals = {}
     with Pool(PROCESSES) as pool:
-        for group, counts, below, wrong in pool.imap_unordered(
+        for group, found in pool.imap_unordered(
                 work, pieces(arguments[1:], seed)):
-            totals.setdefault(group, Counter()).update(counts)
-            negative[group] += below
-            faults += wrong
-    faults += too_few(negative)
-    report(totals, negative, faults, (time.monotonic_ns() - start) // 10 ** 9)
+            totals.setdefault(group, Found()).add(found)
+    faults = [fault for found in totals.values() for fault in found.faults]
+    faults += too_few(totals)
+    report(totals, faults, (time.monotonic_ns() - start) // 10 ** 9)
     return 1 if faults else 0
 
 

@@ -1,7 +1,7 @@
 /*
 ** driver.c: answers requests from standard input by calling the library.
 **
-** A request is 32 bytes, a reply 40, both in the byte order of x86-64. The
+** A request is 48 bytes, a reply 40, both in the byte order of x86-64. The
 ** entry is named by its place in the list below. A batch request is followed
 ** by its claims and by the bytes of the answers buffer, its reply by the
 ** answers buffer and the claims as they are after the call.
@@ -12,13 +12,27 @@
 
 #include "stripeawn.h"
 
-enum entry { SINE, LOWER_END, UPPER_END, ENCLOSE, PROPOSE, JUDGE, BATCH };
+enum entry {
+    SINE,
+    LOWER_END,
+    UPPER_END,
+    ENCLOSE,
+    PROPOSE,
+    JUDGE,
+    BATCH,
+    LOWER_END_DOUBLE,
+    UPPER_END_DOUBLE,
+    ENCLOSE_DOUBLE,
+    PROPOSE_DOUBLE,
+    JUDGE_DOUBLE
+};
 
 struct request {
     uint32_t entry;
     int32_t x, m; /* x of sine: the 32 bits of an unsigned number */
     uint32_t a, n, depth;
-    uint64_t bits; /* of the estimate */
+    uint64_t bits;           /* of the estimate */
+    uint64_t m_bits, e_bits; /* of M and e as doubles */
 };
 
 struct reply {
@@ -52,51 +66,46 @@ static uint8_t *read_buffer(size_t count)
     return buffer;
 }
 
-static struct reply ask_sine(const struct request *r)
+static double double_of(uint64_t bits)
 {
-    struct stripeawn_bounds s = stripeawn_sine((uint32_t)r->x, r->depth);
+    double value;
+
+    memcpy(&value, &bits, sizeof value);
+    return value;
+}
+
+static struct reply of_bounds(struct stripeawn_bounds s)
+{
     struct reply reply = { s.code, s.lo, s.hi, 0, 0 };
 
     return reply;
 }
 
-static struct reply ask_end(const struct request *r)
+static struct reply of_end(struct stripeawn_end s)
 {
-    struct stripeawn_end s =
-        r->entry == LOWER_END
-            ? stripeawn_lower_end(r->x, r->m, r->a, r->depth)
-            : stripeawn_upper_end(r->x, r->m, r->a, r->depth);
     struct reply reply = { s.code, s.accepted, 0, 0, 0 };
 
     return reply;
 }
 
-static struct reply ask_enclosure(const struct request *r)
+static struct reply of_enclosure(struct stripeawn_enclosure s)
 {
-    struct stripeawn_enclosure s = stripeawn_enclose(r->m, r->a, r->depth);
     struct reply reply = { s.code, s.lower, s.upper, 0, 0 };
 
     return reply;
 }
 
-static struct reply ask_proposal(const struct request *r)
+static struct reply of_proposal(struct stripeawn_proposal s)
 {
-    struct stripeawn_proposal s = stripeawn_propose(r->m, r->a);
     struct reply reply = { s.code, s.angle, s.e_sin, s.e_cos, s.j };
 
     return reply;
 }
 
-static struct reply ask_verdict(const struct request *r)
+static struct reply of_verdict(struct stripeawn_verdict s)
 {
-    struct stripeawn_verdict s;
-    struct reply reply = { 0, 0, 0, 0, 0 };
-    double estimate;
+    struct reply reply = { s.code, s.verdict, 0, 0, 0 };
 
-    memcpy(&estimate, &r->bits, sizeof estimate);
-    s = stripeawn_judge(r->m, r->a, estimate, r->n, r->depth);
-    reply.code = s.code;
-    reply.first = s.verdict;
     return reply;
 }
 
@@ -120,25 +129,46 @@ static void answer_batch(const struct request *r)
     free(answers);
 }
 
-static struct reply ask(const struct request *r)
+static struct reply ask_double(const struct request *r)
 {
+    double m = double_of(r->m_bits), e = double_of(r->e_bits);
     struct reply none = { -1, 0, 0, 0, 0 };
 
     switch (r->entry) {
-    case SINE:
-        return ask_sine(r);
-    case LOWER_END:
-    case UPPER_END:
-        return ask_end(r);
-    case ENCLOSE:
-        return ask_enclosure(r);
-    case PROPOSE:
-        return ask_proposal(r);
-    case JUDGE:
-        return ask_verdict(r);
+    case LOWER_END_DOUBLE:
+        return of_end(stripeawn_lower_end_double(r->x, m, e, r->depth));
+    case UPPER_END_DOUBLE:
+        return of_end(stripeawn_upper_end_double(r->x, m, e, r->depth));
+    case ENCLOSE_DOUBLE:
+        return of_enclosure(stripeawn_enclose_double(m, e, r->depth));
+    case PROPOSE_DOUBLE:
+        return of_proposal(stripeawn_propose_double(m, e));
+    case JUDGE_DOUBLE:
+        return of_verdict(stripeawn_judge_double(m, e, double_of(r->bits),
+                                                 r->n, r->depth));
     }
     fail("an unknown entry");
     return none;
+}
+
+static struct reply ask(const struct request *r)
+{
+    switch (r->entry) {
+    case SINE:
+        return of_bounds(stripeawn_sine((uint32_t)r->x, r->depth));
+    case LOWER_END:
+        return of_end(stripeawn_lower_end(r->x, r->m, r->a, r->depth));
+    case UPPER_END:
+        return of_end(stripeawn_upper_end(r->x, r->m, r->a, r->depth));
+    case ENCLOSE:
+        return of_enclosure(stripeawn_enclose(r->m, r->a, r->depth));
+    case PROPOSE:
+        return of_proposal(stripeawn_propose(r->m, r->a));
+    case JUDGE:
+        return of_verdict(stripeawn_judge(r->m, r->a, double_of(r->bits),
+                                          r->n, r->depth));
+    }
+    return ask_double(r);
 }
 
 int main(void)

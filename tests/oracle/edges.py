@@ -1,14 +1,20 @@
 """Edge cases: each limit of either sign with its neighbours, every kind of
-double, batches whole, damaged and truncated."""
+double, batches whole, damaged and truncated.
+
+What is given is of the grid or doubles, and the cases beside it are alike.
+"""
+from functools import partial
 from itertools import product
 
 import doubles
 import records
 import wire
-from cases import GREATEST, LEAST, SIGNS
-from rules import H, ONE, T
+from draws import GREATEST, LEAST
+from given import Doubles, Grid
+from limits import H, ONE, T
 
 FAR = 2 ** 32 - 1
+SIGNS = (1, -1)
 
 
 def either_sign(sizes):
@@ -17,14 +23,40 @@ def either_sign(sizes):
                   | {LEAST, GREATEST})
 
 
-ANOMALIES = either_sign((0, 1, H - 1, H, H + 1))
-ECCENTRICITIES = (0, 1, ONE - 1, ONE, ONE + 1, FAR)
+def on_grid():
+    """M and A at their limits."""
+    return [Grid(m, a) for m, a in product(
+        either_sign((0, 1, H - 1, H, H + 1)),
+        (0, 1, ONE - 1, ONE, ONE + 1, FAR))]
+
+
+def beside(units):
+    """The double on a grid point, and the two beside it."""
+    point = doubles.of_units(units)
+    return point - 1, point, point + 1
+
+
+def off_grid():
+    """M and e as doubles: zeros, the least, each limit and a grid point with
+    the doubles beside it, between two grid points, what is no number or none
+    that is taken; and with either sign."""
+    sizes = (0, 1, doubles.LEAST_NORMAL, *beside(1), doubles.of_units(1, 1, 1),
+             *beside(H), doubles.PI, doubles.INFINITY, doubles.NANS[1])
+    shapes = (0, doubles.SIGN, 1, doubles.SIGN + 1, *beside(1),
+              doubles.of_float(0.9), *beside(ONE), doubles.of_units(ONE + 1),
+              doubles.INFINITY, doubles.INFINITY + doubles.SIGN,
+              doubles.NANS[0])
+    return [Doubles(m + sign, e) for m, sign, e in product(
+        sizes, (0, doubles.SIGN), shapes)]
+
+
 ANGLE_SIZES = (0, 1, 2, 524_288, ONE, H - 1, H, H + 1, T - 1, T, T + 1)
 ANGLES = either_sign(ANGLE_SIZES)
 # The angle of sine is not signed: read so, the last three would be negative.
 SINE_ANGLES = (*ANGLE_SIZES, GREATEST, GREATEST + 1, FAR - T, FAR)
 # 257 and 261 would be depths 1 and 5 if only a byte of them were read.
 DEPTHS = (0, 1, 2, 3, 4, 5, 6, 257, 261, FAR)
+NEAR_DEPTHS = (0, 1, 2, 3, 4, 5, 6)
 # 65,536 would be 0 if only two bytes of it were read.
 TOLERANCES = (0, 1, 1_000, 65_535, 65_536, FAR)
 
@@ -33,25 +65,22 @@ def sines():
     return [wire.sine(x, d) for x, d in product(SINE_ANGLES, DEPTHS)]
 
 
-def ends():
-    every = product(ANGLES, ANOMALIES, ECCENTRICITIES, DEPTHS)
+def ends(every_given, angles, depths):
+    every = product(angles, every_given(), depths)
     return [side(*inputs) for inputs in every
             for side in (wire.lower, wire.upper)]
 
 
-def enclosures():
-    return [wire.enclose(*inputs)
-            for inputs in product(ANOMALIES, ECCENTRICITIES, DEPTHS)]
+def enclosures(every_given, depths):
+    return [wire.enclose(*inputs) for inputs in product(every_given(), depths)]
 
 
-def proposals():
-    return [wire.propose(*inputs)
-            for inputs in product(ANOMALIES, ECCENTRICITIES)]
+def proposals(every_given):
+    return [wire.propose(given) for given in every_given()]
 
 
-def verdicts():
-    every = product(ANOMALIES, ECCENTRICITIES, doubles.every_kind(),
-                    TOLERANCES, (0, 1, 2, 3, 4, 5, 6))
+def verdicts(every_given, tolerances, depths):
+    every = product(every_given(), doubles.every_kind(), tolerances, depths)
     return [wire.judge(*inputs) for inputs in every]
 
 
@@ -82,22 +111,51 @@ def batches():
     return cases
 
 
-def near_parabolic():
+def near_parabolic_grid():
     """Eccentricity one and a little less, M small: roots far apart."""
-    orbits = list(product(SIGNS, (0, 1, 2, 3, 100, 1_000),
-                          (ONE, ONE - 1, ONE - 2, ONE - 100, ONE - 65_536)))
-    cases = [wire.propose(sign * m, a) for sign, m, a in orbits]
-    for (sign, m, a), depth in product(orbits, range(1, 6)):
-        cases.append(wire.enclose(sign * m, a, depth))
-        cases += [side(sign * x, sign * m, a, depth)
+    return [Grid(sign * m, a) for sign, m, a in product(
+        SIGNS, (0, 1, 2, 3, 100, 1_000),
+        (ONE, ONE - 1, ONE - 2, ONE - 100, ONE - 65_536))]
+
+
+def near_parabolic_doubles():
+    """The like off the grid, down to the least double."""
+    one = doubles.of_units(ONE)
+    sizes = (1, doubles.of_float(1e-30), doubles.of_units(0, 1, 1),
+             doubles.of_units(1) - 1, doubles.of_units(1, 1, 1),
+             doubles.of_units(2) + 1, doubles.of_units(46, 11, 4))
+    return [Doubles(m + sign, e) for m, sign, e in product(
+        sizes, (0, doubles.SIGN), (one, one - 1, one - 2 ** 24, one - 2 ** 40,
+                                   doubles.of_float(0.9999)))]
+
+
+def near_parabolic(every_given):
+    """Every entry, about roots at e = 1 and M = 1 and 2."""
+    every = every_given()
+    cases = proposals(every_given) + enclosures(every_given, range(1, 6))
+    for given, depth in product(every, range(1, 6)):
+        sign = -1 if given.negative else 1
+        cases += [side(sign * x, given, depth)
                   for side in (wire.lower, wire.upper)
                   for x in (1, 2, 756_153, 756_154, 952_743, 952_744)]
-        cases += [wire.judge(sign * m, a, doubles.of_units(sign * x), n, depth)
+        cases += [wire.judge(given, doubles.of_units(sign * x), n, depth)
                   for x in (0, 1, 524_288, 756_153, 952_744)
                   for n in (0, 1, 1_000, 65_535)]
     return cases
 
 
-KINDS = {"sine": sines, "ends": ends, "enclosures": enclosures,
-         "proposals": proposals, "verdicts": verdicts, "batches": batches,
-         "near parabolic": near_parabolic}
+KINDS = {
+    "sine": sines,
+    "ends": partial(ends, on_grid, ANGLES, DEPTHS),
+    "enclosures": partial(enclosures, on_grid, DEPTHS),
+    "proposals": partial(proposals, on_grid),
+    "verdicts": partial(verdicts, on_grid, TOLERANCES, NEAR_DEPTHS),
+    "batches": batches,
+    "near parabolic": partial(near_parabolic, near_parabolic_grid),
+    "double ends": partial(ends, off_grid, (-1, 0, 1, ONE, H, T, T + 1, -T),
+                           (0, 1, 3, 5, 6)),
+    "double enclosures": partial(enclosures, off_grid, NEAR_DEPTHS),
+    "double proposals": partial(proposals, off_grid),
+    "double verdicts": partial(verdicts, off_grid, (0, 65_535, 65_536), (5,)),
+    "double near parabolic": partial(near_parabolic, near_parabolic_doubles),
+}

@@ -7,38 +7,43 @@ import cases
 import doubles
 import records
 import wire
+from draws import LEAST
+from given import Grid
 
 OTHER_ENTRY = {wire.LOWER_END: wire.UPPER_END,
                wire.UPPER_END: wire.LOWER_END}
 
 # How a kind of case is drawn, and how many there are of each in a round.
-ROUND = ((cases.end_case, 7), (cases.verdict_case, 7),
-         (cases.enclosure_case, 3), (cases.proposal_case, 2),
-         (cases.batch_case, 1))
+GRID_ROUND = ((cases.GRID_END, 7), (cases.GRID_VERDICT, 7),
+              (cases.GRID_ENCLOSURE, 3), (cases.GRID_PROPOSAL, 2),
+              (cases.batch_case, 1))
+DOUBLE_ROUND = ((cases.DOUBLE_END, 7), (cases.DOUBLE_VERDICT, 7),
+                (cases.DOUBLE_ENCLOSURE, 3), (cases.DOUBLE_PROPOSAL, 2))
 
 
-def has_mirror(m, x=0):
+def has_mirror(given, x=0):
     """0 is a problem of its own, where X and estimates have one sign only,
     and the least number has no negative of 32 bits."""
-    return m != 0 and cases.LEAST not in (m, x)
+    return not given.zero and LEAST not in (given.m, x)
 
 
 def mirror_claims(claims):
     """Each record mirrored that has a mirror; the rest stays."""
     whole, rest = records.split(claims)
     for place, (m, a, bits, *others) in enumerate(map(records.fields, whole)):
-        if has_mirror(m):
+        if has_mirror(Grid(m, a)):
             whole[place] = records.record(-m, a, bits ^ doubles.SIGN, *others)
     return b"".join(whole) + rest
 
 
 def mirror_call(call):
+    given = call.given.mirror()
     if call.entry == wire.BATCH:
         return call._replace(claims=mirror_claims(call.claims))
     if call.entry == wire.JUDGE:
-        return call._replace(m=-call.m, bits=call.bits ^ doubles.SIGN)
+        return call._replace(given=given, bits=call.bits ^ doubles.SIGN)
     return call._replace(entry=OTHER_ENTRY.get(call.entry, call.entry),
-                         x=-call.x, m=-call.m)
+                         given=given, x=-call.x)
 
 
 def mirror_reply(call, reply):
@@ -60,17 +65,16 @@ def draw(rng, kind):
     """A call of this kind that has a mirror."""
     while True:
         call = kind(rng)
-        if call.entry == wire.BATCH or has_mirror(call.m, call.x):
+        if call.entry == wire.BATCH or has_mirror(call.given, call.x):
             return call
 
 
-def mirrors(ask, rng, count):
+def mirrors(ask, rng, count, kinds):
     """Calls of every entry that takes M, each beside its mirror."""
-    kinds = [kind for kind, often in ROUND for _ in range(often)]
-    drawn = [draw(rng, kinds[number % len(kinds)]) for number in range(count)]
+    each = [kind for kind, often in kinds for _ in range(often)]
+    drawn = [draw(rng, each[number % len(each)]) for number in range(count)]
     replies = ask(drawn)
     mirrored = ask([mirror_call(call) for call in drawn])
     for call, reply, got in zip(drawn, replies, mirrored):
-        wanted = mirror_reply(call, reply)
-        yield (0 if call.entry == wire.BATCH else call.m, got == wanted,
+        yield (call.given, got == mirror_reply(call, reply),
                f"{call} has {reply}, and its mirror {got}")

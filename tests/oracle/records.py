@@ -1,5 +1,6 @@
 """Claim records, the batch and the program, R49 to R53."""
 import rules
+from given import Grid
 
 SIZE = 20
 # R53
@@ -23,10 +24,10 @@ def fields(claim):
 
 def answer_byte(claim):
     """R50: a code where there is one, else the verdict."""
-    *given, reserved = fields(claim)
+    m, a, bits, n, depth, reserved = fields(claim)
     if reserved != 0:
         return 9
-    code, verdict = rules.judge(*given)
+    code, verdict = rules.judge(Grid(m, a), bits, n, depth)
     return code or verdict
 
 

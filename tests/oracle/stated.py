@@ -1,12 +1,17 @@
 """The numbers of R57, and some beside them: calls with their stated answers.
 
 They hold both programs: the rules of this folder and the library. What is
-stated of an M above 0 is stated of -M too, as its mirror.
+stated of an M above 0 is stated of -M too, as its mirror; and what is stated
+of the grid also of the same numbers as doubles.
 """
 import doubles
+import stated_doubles
 import wire
-from cases import GREATEST, LEAST, SIGNS
-from rules import CONFIRMED, H, ONE, REFUTED, T, UNDECIDED
+from draws import GREATEST, LEAST
+from edges import SIGNS
+from given import Grid
+from limits import H, ONE, T
+from rules import CONFIRMED, REFUTED, UNDECIDED
 
 SINES = [
     *((0, d, 0, 0) for d in (1, 2, 3, 4, 5)),
@@ -57,12 +62,12 @@ def ends():
     for sign in SIGNS:
         lower, upper = (wire.lower, wire.upper)[::sign]
         for side, rows in ((lower, LOWER_ENDS), (upper, UPPER_ENDS)):
-            stated += [(side(sign * ONE, sign * m, ONE, d), (0, yes))
+            stated += [(side(sign * ONE, Grid(sign * m, ONE), d), (0, yes))
                        for d, m, yes in rows]
     for x, m, is_lower, is_upper in PLAIN_ENDS:
-        stated += [(wire.lower(x, m, 0, 5), is_lower),
-                   (wire.upper(x, m, 0, 5), is_upper)]
-    stated += [(side(x, m, 0, 5), (10, 0)) for x, m in REFUSED_ENDS
+        stated += [(wire.lower(x, Grid(m, 0), 5), is_lower),
+                   (wire.upper(x, Grid(m, 0), 5), is_upper)]
+    stated += [(side(x, Grid(m, 0), 5), (10, 0)) for x, m in REFUSED_ENDS
                for side in (wire.lower, wire.upper)]
     return stated
 
@@ -70,16 +75,18 @@ def ends():
 def enclosures():
     """On the circle both ends are M."""
     sizes = (1, 12_345, ONE, H - 1, H)
-    stated = [(wire.enclose(m, 0, d), (0, m, m))
+    stated = [(wire.enclose(Grid(m, 0), d), (0, m, m))
               for m in (0, *sizes, *(-size for size in sizes))
               for d in (1, 2, 3, 4, 5)]
-    stated += [(wire.enclose(sign * H, ONE, 1), (6, 0, 0)) for sign in SIGNS]
-    stated += [(wire.enclose(m, 0, 1), (1, 0, 0))
+    stated += [(wire.enclose(Grid(sign * H, ONE), 1), (6, 0, 0))
+               for sign in SIGNS]
+    stated += [(wire.enclose(Grid(m, 0), 1), (1, 0, 0))
                for m in (H + 1, -H - 1, GREATEST, LEAST)]
-    stated += [(wire.enclose(m, ONE + 1, 1), (2, 0, 0)) for m in (0, -H)]
-    stated += [(wire.enclose(0, ONE, 5), (0, 0, 0)),
-               (wire.enclose(1, ONE, 5), (0, 756_153, 952_744)),
-               (wire.enclose(-1, ONE, 5), (0, -952_744, -756_153))]
+    stated += [(wire.enclose(Grid(m, ONE + 1), 1), (2, 0, 0))
+               for m in (0, -H)]
+    stated += [(wire.enclose(Grid(0, ONE), 5), (0, 0, 0)),
+               (wire.enclose(Grid(1, ONE), 5), (0, 756_153, 952_744)),
+               (wire.enclose(Grid(-1, ONE), 5), (0, -952_744, -756_153))]
     return stated
 
 
@@ -90,7 +97,7 @@ def circles():
     rows = [(1, 1, 0, 1, (0, REFUTED)), (1, 1, 1, 1, (0, CONFIRMED)),
             (2, 1, 1, 1, (0, REFUTED)), (H, top, 64, 5, (0, CONFIRMED)),
             (H, top + 1, 64, 5, (4, 0))]
-    return [(wire.judge(sign * m, 0, bits + minus, n, d), answer)
+    return [(wire.judge(Grid(sign * m, 0), bits + minus, n, d), answer)
             for m, bits, n, d, answer in rows
             for sign, minus in zip(SIGNS, (0, doubles.SIGN))]
 
@@ -101,21 +108,24 @@ def verdicts():
     refuted."""
     flattered, far_off = doubles.of_units(524_288), doubles.of_units(1_048_576)
     minus = doubles.SIGN
-    stated = [(wire.judge(0, 0, 1, 0, 1), (0, REFUTED)),
-              (wire.judge(0, 0, 1, 1, 1), (0, CONFIRMED)),
-              (wire.judge(0, ONE, flattered, 1_000, 5), (0, UNDECIDED)),
-              (wire.judge(0, ONE, far_off, 1_000, 5), (0, REFUTED)),
-              (wire.judge(0, ONE, minus + 1, 0, 5), (4, 0)),
-              (wire.judge(1, 0, minus + 1, 0, 5), (4, 0)),
-              (wire.judge(-1, 0, 1, 0, 5), (4, 0))]
+    rows = [(0, 0, 1, 0, 1, (0, REFUTED)), (0, 0, 1, 1, 1, (0, CONFIRMED)),
+            (0, ONE, flattered, 1_000, 5, (0, UNDECIDED)),
+            (0, ONE, far_off, 1_000, 5, (0, REFUTED)),
+            (0, ONE, minus + 1, 0, 5, (4, 0)), (1, 0, minus + 1, 0, 5, (4, 0)),
+            (-1, 0, 1, 0, 5, (4, 0))]
     for zero in (0, minus):
-        stated += [(wire.judge(0, ONE, zero, 0, 5), (0, CONFIRMED)),
-                   (wire.judge(0, ONE, zero, 1, 5), (0, UNDECIDED))]
-        stated += [(wire.judge(m, 0, zero, 1, 1), (0, CONFIRMED))
-                   for m in (1, -1)]
-        stated += [(wire.judge(m, 0, zero, 0, 1), (0, REFUTED))
-                   for m in (1, -1)]
-    return stated
+        rows += [(0, ONE, zero, 0, 5, (0, CONFIRMED)),
+                 (0, ONE, zero, 1, 5, (0, UNDECIDED))]
+        rows += [(m, 0, zero, n, 1, (0, verdict)) for m in (1, -1)
+                 for n, verdict in ((1, CONFIRMED), (0, REFUTED))]
+    return [(wire.judge(Grid(m, a), *claim), answer)
+            for m, a, *claim, answer in rows]
+
+
+def as_doubles(grid):
+    """The same statements of doubles on the grid."""
+    return [(call._replace(given=call.given.as_doubles()), answer)
+            for call, answer in grid]
 
 
 def stated():
@@ -125,4 +135,5 @@ def stated():
     batches = [(BATCH, (0, 2, b"\x10\x12\xEE", BATCH.claims)),
                (NEGATIVE_BATCH, (0, 6, b"\x10\x04\x10\x01\x01\x11\xEE",
                                  NEGATIVE_BATCH.claims))]
-    return sines + ends() + enclosures() + circles() + verdicts() + batches
+    grid = ends() + enclosures() + circles() + verdicts()
+    return sines + batches + grid + as_doubles(grid) + stated_doubles.stated()

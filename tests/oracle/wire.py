@@ -3,23 +3,26 @@ import struct
 import subprocess
 from typing import NamedTuple
 
-# The driver's order.
+from given import Doubles, Grid
+
+# The driver's order. Behind these come the entries of doubles in the same
+# order, each BATCH further on than its entry of the grid.
 SINE, LOWER_END, UPPER_END, ENCLOSE, PROPOSE, JUDGE, BATCH = range(7)
 NAMES = ("sine", "lower_end", "upper_end", "enclose", "propose", "judge",
          "judge_claims")
 
 # M and X are signed, but for the X of sine.
-REQUEST = struct.Struct("<I2i3IQ")
-SINE_REQUEST = struct.Struct("<2Ii3IQ")
+REQUEST = struct.Struct("<I2i3I3Q")
+SINE_REQUEST = struct.Struct("<2Ii3I3Q")
 REPLY = struct.Struct("<5q")
 
 
 class Call(NamedTuple):
-    """A call with numbers; what an entry does not take stays 0."""
+    """A call with numbers, and what is given of M and e, Grid or Doubles;
+    what an entry does not take stays 0."""
     entry: int
+    given: object = Grid(0, 0)
     x: int = 0
-    m: int = 0
-    a: int = 0
     n: int = 0
     depth: int = 0
     bits: int = 0
@@ -32,40 +35,52 @@ class Batch(NamedTuple):
     answers: bytes
     answers_len: int
     entry: int = BATCH
+    given: object = Grid(0, 0)
 
 
 def sine(x, depth):
     return Call(SINE, x=x, depth=depth)
 
 
-def lower(x, m, a, depth):
-    return Call(LOWER_END, x, m, a, 0, depth)
+def lower(x, given, depth):
+    return Call(LOWER_END, given, x, 0, depth)
 
 
-def upper(x, m, a, depth):
-    return Call(UPPER_END, x, m, a, 0, depth)
+def upper(x, given, depth):
+    return Call(UPPER_END, given, x, 0, depth)
 
 
-def enclose(m, a, depth):
-    return Call(ENCLOSE, 0, m, a, 0, depth)
+def enclose(given, depth):
+    return Call(ENCLOSE, given, 0, 0, depth)
 
 
-def propose(m, a):
-    return Call(PROPOSE, 0, m, a)
+def propose(given):
+    return Call(PROPOSE, given)
 
 
-def judge(m, a, bits, n, depth):
-    return Call(JUDGE, 0, m, a, n, depth, bits)
+def judge(given, bits, n, depth):
+    return Call(JUDGE, given, 0, n, depth, bits)
+
+
+def name(call):
+    """Of the entry, as it is in C."""
+    ending = "_double" if isinstance(call.given, Doubles) else ""
+    return NAMES[call.entry] + ending
 
 
 def encode(call):
-    if call.entry == SINE:
-        return SINE_REQUEST.pack(*call)
-    if call.entry != BATCH:
-        return REQUEST.pack(*call)
-    head = REQUEST.pack(BATCH, 0, 0, len(call.claims), call.answers_len,
-                        len(call.answers), 0)
-    return head + call.claims + call.answers
+    entry, given = call.entry, call.given
+    if entry == SINE:
+        return SINE_REQUEST.pack(SINE, call.x, 0, 0, 0, call.depth, 0, 0, 0)
+    if entry == BATCH:
+        head = REQUEST.pack(BATCH, 0, 0, len(call.claims), call.answers_len,
+                            len(call.answers), 0, 0, 0)
+        return head + call.claims + call.answers
+    if isinstance(given, Doubles):
+        return REQUEST.pack(entry + BATCH, call.x, 0, 0, call.n, call.depth,
+                            call.bits, *given)
+    return REQUEST.pack(entry, call.x, *given, call.n, call.depth, call.bits,
+                        0, 0)
 
 
 def decode(calls, data):

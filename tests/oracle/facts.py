@@ -1,0 +1,40 @@
+"""Every check of exact facts: which it is, and how many cases a run has."""
+from functools import partial
+
+import corners
+import demands
+import draw_doubles
+import draw_grid
+import mirrors
+
+
+def of(family, check):
+    return partial(check, family=family)
+
+
+def round_of(kinds):
+    return partial(mirrors.mirrors, kinds=kinds)
+
+
+# What checks each kind, how many cases a run has, how many make one piece of
+# work.
+KINDS = {
+    "sums": (demands.sums, 500, 500),
+    "brackets": (of(draw_doubles, demands.brackets), 400, 200),
+    "sines": (demands.sines, 8_000, 2_000),
+    "ends": (of(draw_grid, demands.ends), 12_000, 2_000),
+    "known ends": (of(draw_grid, demands.known_ends), 4_000, 2_000),
+    "enclosures": (of(draw_grid, demands.enclosures), 8_000, 1_000),
+    "proposals": (of(draw_grid, demands.proposals), 12_000, 2_000),
+    "verdicts": (of(draw_grid, demands.verdicts), 20_000, 4_000),
+    "mirrors": (round_of(mirrors.GRID_ROUND), 10_000, 2_000),
+    "double ends": (of(draw_doubles, demands.ends), 20_000, 2_000),
+    "double known ends": (of(draw_doubles, demands.known_ends), 2_000, 1_000),
+    "double enclosures": (of(draw_doubles, demands.enclosures), 24_000, 1_000),
+    "double proposals": (of(draw_doubles, demands.proposals), 40_000, 2_000),
+    "double verdicts": (of(draw_doubles, demands.verdicts), 48_000, 2_000),
+    "double mirrors": (round_of(mirrors.DOUBLE_ROUND), 10_000, 2_000),
+    "grid points": (corners.grid_points, 10_000, 2_000),
+    "corners' ends": (corners.ends, 10_000, 2_000),
+    "corners' enclosures": (corners.enclosures, 4_000, 1_000),
+}

@@ -1,0 +1,11 @@
+"""The grid and its limits, R2 and R3."""
+
+# R2, R3: units in a radian, and A for e = 1
+UNIT = 2 ** 28
+ONE = 268_435_456
+# R3: the greatest size of M and that of X
+H = 843_314_856
+T = 843_314_920
+# R3: every depth, and the greatest N
+DEPTHS = (1, 2, 3, 4, 5)
+TOLERANCE = 65_535
