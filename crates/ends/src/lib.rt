@@ -2,7 +2,8 @@
 ghost use mathlib.Core.Path.{_≡_};
 ghost use Prim.Native.Nat.{_+_, _*_};
 ghost use Rattle.orbit.specs.Cell.{orbitAt};
-ghost use Rattle.orbit.specs.Given.{grid, doubles, ByProblem, PosedIn};
+ghost use Rattle.orbit.specs.Given.{grid, doubles};
+ghost use Rattle.orbit.specs.Posed.{ByProblem, PosedIn};
 ghost use Rattle.ends.specs.Ends.{endAt, lowerEnd, upperEnd};
 ghost use Rattle.ends.specs.Entry.{endRule, lowerRule, upperRule, flagged};
 ghost use Rattle.ends.specs.Corner.{Asked, Settling, CornerIn, BoundIn, WalkIn, oneMean, cornerOf, testBy, atDepth};

@@ -1,6 +1,7 @@
 // The judge of a claim: does Kepler's equation have its root within N units of an estimate?
 ghost use mathlib.Core.Path.{_≡_};
-ghost use Rattle.orbit.specs.Given.{grid, doubles, ByProblem, PosedIn};
+ghost use Rattle.orbit.specs.Given.{grid, doubles};
+ghost use Rattle.orbit.specs.Posed.{ByProblem, PosedIn};
 ghost use Rattle.judge.specs.Verdict.{confirmed, lowerAbove, upperBelow, verdictNumber};
 ghost use Rattle.judge.specs.Judge.{caseVerdict, judgeRule};
 ghost use Rattle.judge.specs.Limits.{CaseIn};

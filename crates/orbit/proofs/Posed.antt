@@ -15,7 +15,8 @@ use Rattle.grid.proofs.Fits.{limit-fits, depth-fits}
 use Rattle.units.specs.Units.{product}
 use Rattle.units.proofs.Range.{passed-in-range, ceiling-fits}
 use Rattle.orbit.specs.Cell.{CellIn}
-use Rattle.orbit.specs.Given.{Given, grid, doubles, sizeOf, checksOf, mirroredOf, cellOf, cellWith, noCell, codedCell, problemChecks, problemAt, problemWith, noProblem, codedProblem, ProblemIn, CodedCellIn, PosedIn}
+use Rattle.orbit.specs.Given.{Given, grid, doubles, sizeOf, checksOf, mirroredOf, cellOf, cellWith, noCell, codedCell, problemChecks, problemAt, problemWith, noProblem, codedProblem, ProblemIn}
+use Rattle.orbit.specs.Posed.{CodedCellIn, PosedIn}
 use Rattle.orbit.specs.declared.CodedCell.{CodedCell}
 use Rattle.orbit.specs.declared.CodedProblem.{CodedProblem}
 

@@ -3,7 +3,6 @@
 use Prim.Native.Nat.{ℕ}
 use mathlib.Core.Bool.{Bool, false}
 use mathlib.Core.List.{List, [], _∷_, _++_}
-use mathlib.Core.Path.{_≡_}
 use lib.IntN.{ℤ, pos, natAbs}
 use lib.Ieee.{Float}
 use lib.Ieee.Positive.{den}
@@ -46,7 +45,7 @@ abbrev pub mirroredOf : Given → Bool
 mirroredOf (grid m a) = negative m
 mirroredOf (doubles m e) = belowZero m
 
--- R1, R59: what is known in whole units of M, or on the mirror of -M, and of A
+-- R1, R59, R60: what is known in whole units of M, or on the mirror of -M, and of A
 abbrev pub cellOf : Given → Cell
 cellOf (grid m a) = gridCell (natAbs m) a
 cellOf (doubles m e) = record { m = spanOf (floorAndCeiling (sizeOf m)); a = spanOf (floorAndCeiling e) }
@@ -97,19 +96,3 @@ codedProblem g d =
 pub record ProblemIn (p : Problem) : Type 0 where
   pub cell : CellIn (p .cell)
   pub depth : DepthIn (p .depth)
-
--- ---- what was posed, whatever was given; no entry's contract cites this
-
--- r is a rule's answer to whatever was given that is posed so
-abbrev pub ByCell : {A : Type 0} → CodedCell → (Given → A) → A → Type 0
-ByCell posed rule r = (g : Given) → posed ≡ codedCell g → r ≡ rule g
-
-abbrev pub ByProblem : {A : Type 0} → CodedProblem → (Given → ℕ → A) → A → Type 0
-ByProblem posed rule r = (g : Given) (d : ℕ) → posed ≡ codedProblem g d → r ≡ rule g d
-
--- R3, R4: its limits, where it has no code
-pub record CodedCellIn (c : CodedCell) : Type 0 where
-  pub cell : c .code ≡ number done → CellIn (c .cell)
-
-pub record PosedIn (p : CodedProblem) : Type 0 where
-  pub problem : p .code ≡ number done → ProblemIn (p .problem)

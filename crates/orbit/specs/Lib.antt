@@ -1,3 +1,4 @@
 pub mod Mirror
 pub mod Cell
 pub mod Given
+pub mod Posed

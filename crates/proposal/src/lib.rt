@@ -1,7 +1,8 @@
 // The proposal: where the rotations end, and the certificate that says how near the root is.
 ghost use mathlib.Core.Path.{_≡_};
 ghost use Prim.Native.Nat.{_^_, _<_};
-ghost use Rattle.orbit.specs.Given.{grid, doubles, ByCell, CodedCellIn};
+ghost use Rattle.orbit.specs.Given.{grid, doubles};
+ghost use Rattle.orbit.specs.Posed.{ByCell, CodedCellIn};
 ghost use Rattle.proposal.specs.Certify.{widths, certifies, certificate};
 ghost use Rattle.proposal.specs.Propose.{concluded, mirrorProposal, proposalRule};
 ghost use Rattle.proposal.specs.Ready.{Triable, Concludable};
