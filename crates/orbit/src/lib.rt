@@ -6,7 +6,7 @@ ghost use Rattle.whole.specs.Room.{Roomy};
 ghost use Rattle.grid.specs.Grid.{T-units};
 ghost use Rattle.orbit.specs.Mirror.{mirror, mirrorEnd};
 ghost use Rattle.orbit.specs.Cell.{gridCell, spanOf};
-ghost use Rattle.orbit.specs.Given.{grid, doubles, codedCell, codedProblem};
+ghost use Rattle.orbit.specs.Given.{grid, doubles, noCell, codedCell, codedProblem};
 ghost use Rattle.orbit.specs.Posed.{ByCell};
 use grid::Angle;
 use grid::Depth;
@@ -67,6 +67,19 @@ pub struct CodedCell {
     pub cell: Cell,
 }
 
+impl CodedCell {
+    // Nothing but a code.
+    fn refused(code: u32) -> CodedCell
+        ensures { λ r. ⌜ r ≡ noCell code ⌝ }
+    {
+        CodedCell {
+            code,
+            mirrored: false,
+            cell: Cell::on_grid(0, 0),
+        }
+    }
+}
+
 impl Cell {
     pub fn on_grid(m: u32, a: u32) -> Cell
         ensures { λ r. ⌜ r ≡ gridCell m a ⌝ }
@@ -99,11 +112,7 @@ impl Cell {
                 cell: Cell::on_grid(size, a),
             }
         } else {
-            CodedCell {
-                code,
-                mirrored: false,
-                cell: Cell::on_grid(0, 0),
-            }
+            CodedCell::refused(code)
         }
     }
 
@@ -125,11 +134,7 @@ impl Cell {
                 cell: Cell { m, a },
             }
         } else {
-            CodedCell {
-                code,
-                mirrored: false,
-                cell: Cell::on_grid(0, 0),
-            }
+            CodedCell::refused(code)
         }
     }
 }

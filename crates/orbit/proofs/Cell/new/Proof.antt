@@ -37,7 +37,7 @@ returns c =
 returns-2 : tie.Need-returns-2
 returns-2 c =
     let e = c .before .before in
-    cells (given e) .refused-by (code-is e) (c .before .if1 .left) _ (simp (c .on-grid2 .ensures))
+    cells (given e) .refused-by (code-is e) (c .before .if1 .left) _ (c .refused .ensures)
 
 pub new-spec : {M : Type 1} → statement M
 new-spec =

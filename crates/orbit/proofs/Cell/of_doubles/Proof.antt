@@ -43,7 +43,7 @@ returns c =
 returns-2 : tie.Need-returns-2
 returns-2 c =
     let e = c .before .before in
-    cells (given e) .refused-by (said e .code-is) (c .before .if1 .left) _ (simp (c .on-grid .ensures))
+    cells (given e) .refused-by (said e .code-is) (c .before .if1 .left) _ (c .refused .ensures)
 
 pub of-doubles-spec : {M : Type 1} → statement M
 of-doubles-spec =
