@@ -2,10 +2,14 @@
 -- checks of M and A, the mark and the cell alone. Assumes nothing.
 use mathlib.Core.Path.{_≡_, refl, sym, ap, ap₂, _∙_}
 use mathlib.Core.Bool.{Bool, true, false, true≢false}
-use Prim.Native.Nat.{ℕ, suc, _*_}
+use Prim.Native.Nat.{ℕ, _*_, _^_, _<_}
 use native.Mathlib.Omega.{arith}
-use lib.IntN.{ℤ, pos, negsuc}
-use lib.Ieee.{Float, nan, inf, fin, neg}
+use lib.Dec.{T, lit≤}
+use lib.IntN.{ℤ, pos, negsuc, natAbs}
+use lib.Ieee.{Float, nan, inf, fin, binary64, up, down, fits, neg}
+use lib.Ieee.Fits.{round-fits}
+use lib.Ieee.Exact.{HasValue}
+use Rattle.whole.specs.Sign.{negative}
 use Rattle.whole.proofs.Parts.{own, shift, is-pos, is-neg, is-mul}
 use Rattle.whole.proofs.Order.{one-number}
 use Rattle.whole.proofs.CodeRoom.{size-sign}
@@ -14,6 +18,7 @@ use Rattle.grid.proofs.Refuses.{through}
 use Rattle.units.specs.Units.{mirrorDouble, belowZero, floorAndCeiling, offRange}
 use Rattle.units.specs.Exact.{InUnits}
 use Rattle.units.specs.declared.Units.{Units}
+use Rattle.units.proofs.Scaled.{over-power}
 use Rattle.orbit.specs.Cell.{spanOf}
 use Rattle.orbit.specs.Given.{Given, grid, doubles, sizeOf, badM, badA, checksOf, mirroredOf, cellOf}
 use Rattle.orbit.specs.declared.Cell.{Cell}
@@ -42,7 +47,7 @@ module _ {g h : Given} (e : AlikeIn g h) where
         judge = λ x n d. simp (e .m, e .a, e .cell, t);
       }
 
-  -- a function of an answer by checks that leaves refusals alone
+  -- a refusal is its own mirror, so that `through` serves
   mirrors : mirroredOf g ≡ true → mirroredOf h ≡ false → Mirrors g h
   unfolding proposalRule judgeRule
   mirrors t f =
@@ -58,21 +63,21 @@ module _ {g h : Given} (e : AlikeIn g h) where
 -- ---- the mirror
 
 -- a double below 0, and its negative
-module _ (m e : Float) (below : belowZero m ≡ true) where
-  not-below : (x : Float) → belowZero x ≡ true → belowZero (neg x) ≡ false
-  unfolding belowZero neg
-  not-below nan t = refl
-  not-below (inf true) t = refl
-  not-below (inf false) t = absurd (true≢false (sym t))
-  not-below (fin true n g) t = refl
-  not-below (fin false n g) t = absurd (true≢false (sym t))
+not-below : (x : Float) → belowZero x ≡ true → belowZero (neg x) ≡ false
+unfolding belowZero neg
+not-below nan t = refl
+not-below (inf true) t = refl
+not-below (inf false) t = absurd (true≢false (sym t))
+not-below (fin true n g) t = refl
+not-below (fin false n g) t = absurd (true≢false (sym t))
 
+module _ (m e : Float) (below : belowZero m ≡ true) where
   one-size : sizeOf m ≡ sizeOf (neg m)
   one-size = ap (λ (t : Bool). mirrorDouble t m) below ∙ sym (ap (λ (t : Bool). mirrorDouble t (neg m)) (not-below m below))
 
   doubles-mirrored : Mirrors (doubles m e) (doubles (neg m) e)
   doubles-mirrored =
-      mirrors (record { m = ap (offRange H-units) one-size; a = refl; cell = ap (λ (x : Float). cellFrom x) one-size }) below (not-below m below)
+      mirrors (record { m = ap (offRange H-units) one-size; a = refl; cell = ap cellFrom one-size }) below (not-below m below)
     where
       cellFrom : Float → Cell
       cellFrom x = record { m = spanOf (floorAndCeiling x); a = spanOf (floorAndCeiling e) }
@@ -97,9 +102,22 @@ on-grid m e M A p q =
       cell = ap₂ (λ (x y : Units). record { m = spanOf x; a = spanOf y }) (u .rounded) (ap floorAndCeiling (sym s) ∙ v .rounded);
     }) (u .sign)
 
-every : (M : ℤ) → InUnits (unitsDouble M) M 1
-every (pos n) = one-number (is-mul one (is-pos n)) (shift (is-mul (one * 1) (is-pos (n * 1))) (omega arith))
-every (negsuc n) = one-number (is-mul one (own (negsuc n))) (shift (is-mul (one * 1) (is-neg (is-pos (suc n * 1)))) (omega arith))
+-- a double with the sign and the size of a whole number of units
+value-in-units : (x : Float) (z : ℤ) → HasValue x (negative z) (natAbs z) one → InUnits x z 1
+value-in-units nan z v = absurd v
+value-in-units (inf s) z v = absurd v
+value-in-units (fin s m e) (pos n) v =
+    let h = v .1 in
+    rw (v .0) (one-number (is-mul (down e) (is-pos n)) (shift (is-mul (one * 1) (is-pos (m * up e))) (omega arith)))
+value-in-units (fin s m e) (negsuc n) v =
+    let h = v .1 in
+    rw (v .0) (one-number (is-mul (down e) (own (negsuc n))) (shift (is-mul (one * 1) (is-neg (is-pos (m * up e)))) (omega arith)))
+
+every : (M : ℤ) → natAbs M < 2 ^ 53 → T (fits binary64 (unitsDouble M)) × InUnits (unitsDouble M) M 1
+every M few = (
+  round-fits binary64 (negative M) (natAbs M) one,
+  value-in-units (unitsDouble M) M (over-power binary64 (negative M) (natAbs M) 28 (lit≤ tt) (lit≤ tt) few),
+)
 
 pub doubles-met : Doubles
 doubles-met = record { values = own-value; possible = own-possible; on-grid = on-grid; every = every }

@@ -7,7 +7,7 @@ use Prim.Native.Nat.{ℕ, suc, _+_, _*_, _/_, _%_, _^_, _≤_, _<_}
 use lib.Dec.{T}
 use lib.IntN.{ℤ, pos, negsuc, natAbs, _*ℤ_}
 use lib.Signed.{_≤ℤ_}
-use lib.Ieee.{Float, fin, binary64, ofBits, fits, mul, neg}
+use lib.Ieee.{Float, binary64, round, ofBits, fits, mul, neg}
 use lib.Ieee.Positive.{den}
 use lib.ListN.{length}
 use Rattle.whole.specs.Sign.{negative}
@@ -103,9 +103,9 @@ pub record Mirrored : Type 0 where
   pub on-grid : (m a : ℕ) → Mirrors (grid (negsuc m) a) (grid (pos (suc m)) a)
   pub of-doubles : (m e : Float) → belowZero m ≡ true → Mirrors (doubles m e) (doubles (neg m) e)
 
--- R60: the double of a whole number of units, which it is exactly
+-- R60: the double nearest to a whole number of units
 abbrev pub unitsDouble : ℤ → Float
-unitsDouble z = fin (negative z) (natAbs z) (negsuc 27)
+unitsDouble z = round binary64 (negative z) (natAbs z) one
 
 pub record Doubles : Type 0 where
   -- R60: the exact M and A of doubles within their limits are what the doubles are
@@ -113,9 +113,10 @@ pub record Doubles : Type 0 where
       → let o = exactOf (doubles m e) in InUnits m (o .p) (o .q) × InUnits e (pos (o .r)) (o .s)
   -- R60: and the exact M and A of whatever is given are possible: they lie in its cell
   pub possible : (g : Given) → Possible g (exactOf g)
-  -- R60: doubles on the grid are answered as the grid's numbers are, for every M and A; and each has such doubles
+  -- R60: doubles on the grid are answered as the grid's numbers are, for every M and A
   pub on-grid : (m e : Float) (M : ℤ) (A : ℕ) → InUnits m M 1 → InUnits e (pos A) 1 → Same (doubles m e) (grid M A)
-  pub every : (M : ℤ) → InUnits (unitsDouble M) M 1
+  -- R60: and each has such a double, up to the greatest number of 32 bits and beyond
+  pub every : (M : ℤ) → natAbs M < 2 ^ 53 → T (fits binary64 (unitsDouble M)) × InUnits (unitsDouble M) M 1
 
 pub record Program : Type 0 where
   -- R53: the answer bytes, one for each claim

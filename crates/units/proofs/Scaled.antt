@@ -1,12 +1,13 @@
--- Multiplication of a double by a power of two is exact as long as nothing overflows, from subnormals too. Assumes nothing.
+-- Multiplication of a double by a power of two is exact as long as nothing overflows, from subnormals too; and a whole number over a
+-- power of two is a double, where its digits are few enough. Assumes nothing.
 use mathlib.Core.Path.{_≡_, sym, ap, _∙_}
 use mathlib.Core.Bool.{Bool, true, false, _&&_}
 use Prim.Native.Nat.{ℕ, zero, suc, _+_, _-_, _*_, _%_, _^_, _≤_, _<_, suc-le-suc}
-use native.Mathlib.Nat.{lt-of-not-le, not-le-of-lt, mul-lt-mul-of-pos-right, lt-of-mul-lt-mul-right, one-mul, mul-one}
+use native.Mathlib.Nat.{lt-of-not-le, not-le-of-lt, mul-lt-mul-of-pos-right, lt-of-mul-lt-mul-right, lt-of-lt-of-le, one-mul, mul-one, mul-assoc}
 use native.Mathlib.Omega.{arith}
 use lib.Dec.{T, leb, ltb, eqb, leb→le, ltb→lt}
 use lib.IntN.{ℤ, pos, negsuc}
-use lib.Pow.{pow-add, pow-pos, pow-lt}
+use lib.Pow.{pow-add, pow-pos, pow-lt, pow-mono, shl-lt}
 use lib.Ieee.{fin, Format, prec, emax, low, up, down, round, fits}
 use lib.Ieee.Digits.{back}
 use lib.Ieee.Fits.{down-pos}
@@ -56,3 +57,10 @@ times-power f s (suc m) e t fit h =
     round-exact f s (suc m * up e * 2 ^ t) (down e) (suc m) (g .0 + t) (down-pos e) (k .0)
     (rw (pow-add 2 (g .0) t, pow-add 2 (low f) (suc (emax f))) (no-overflow (suc m) (up e) (2 ^ t) (2 ^ low f) (2 ^ (g .0)) (down e) (2 ^ suc (emax f)) (pow-pos (low f)) (g .1) h))
     (rw (pow-add 2 (g .0) t) (regroup (suc m) (up e) (2 ^ t) (2 ^ low f) (2 ^ (g .0)) (down e) (g .1)))
+
+-- n / 2^k, where k is one of the format's places
+pub over-power : (f : Format) (s : Bool) (n k : ℕ) → k ≤ low f → prec f + (low f - k) ≤ low f + suc (emax f) → n < 2 ^ prec f
+    → HasValue (round f s n (2 ^ k)) s n (2 ^ k)
+over-power f s n k h room few =
+    round-exact f s n (2 ^ k) n (low f - k) (pow-pos k) few (lt-of-lt-of-le (shl-lt (prec f) (low f - k) few) (pow-mono room))
+    (ap (λ (j : ℕ). n * 2 ^ j) (sym (back (low f) k h)) ∙ ap (λ (p : ℕ). n * p) (pow-add 2 (low f - k) k) ∙ sym (mul-assoc n (2 ^ (low f - k)) (2 ^ k)))
