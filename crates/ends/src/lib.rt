@@ -112,7 +112,7 @@ fn settle(m: u64, a: Span, depth: Depth, x: Angle, upper: bool) -> bool
         if now.settles {
             return now.accepts;
         }
-        if w.pairs == pairs {
+        if w.pairs == pairs || series::spent(w) {
             return false;
         }
     }

@@ -4,6 +4,7 @@ pub mod BoundsTrue
 pub mod CodeBias
 pub mod CodePair
 pub mod CodeRange
+pub mod CodeStop
 pub mod CodeWalk
 pub mod Deeper
 pub mod Factorial
@@ -13,6 +14,7 @@ pub mod RawTrue
 pub mod Rise
 pub mod SineRefuses
 pub mod SineTerms
+pub mod Stays
 pub mod Sums
 pub mod TermLimits
 pub mod TermsTrue

@@ -21,6 +21,9 @@ unit-pos s div k = mul-pos one-pos (div k)
 pub Q-mono : {X Y : ℕ} → X ≤ Y → Q+ X ≤ Q+ Y
 Q-mono h = up-mono one one-pos (mul-le-mul h h)
 
+Q-down-mono : {X Y : ℕ} → X ≤ Y → Q- X ≤ Q- Y
+Q-down-mono h = down-mono one one-pos (mul-le-mul h h)
+
 pub Q-order : (X : ℕ) → Q- X ≤ Q+ X
 Q-order X = down-le-up (X * X) one one-pos
 
@@ -30,6 +33,12 @@ module _ (s : Series) (div : Divides s) where
   unfolding u
   u-mono f h zero = f
   u-mono f h (suc k) = up-mono (one * s .divisor (suc k)) (unit-pos s div k) (mul-le-mul (u-mono f h k) (Q-mono h))
+
+  -- and so does l_k
+  pub l-mono : {X Y : ℕ} → s .term0 X ≤ s .term0 Y → X ≤ Y → (k : ℕ) → l s X k ≤ l s Y k
+  unfolding l
+  l-mono f h zero = f
+  l-mono f h (suc k) = down-mono (one * s .divisor (suc k)) (unit-pos s div k) (mul-le-mul (l-mono f h k) (Q-down-mono h))
 
   pub l-le-u : (X k : ℕ) → l s X k ≤ u s X k
   unfolding l u

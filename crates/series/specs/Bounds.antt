@@ -1,5 +1,6 @@
--- The raw bounds of a depth, and the best of depths 1 to d, R12 and R13, for any series.
-use Prim.Native.Nat.{ℕ, zero, suc, _+_, _*_}
+-- The raw bounds of a depth, the best of depths 1 to d, and when no depth has better ones, R12, R13 and R61, for any series.
+use mathlib.Core.Path.{_≡_}
+use Prim.Native.Nat.{ℕ, zero, suc, _+_, _*_, _≤_}
 use lib.IntN.{ℤ, subℕ}
 use Rattle.whole.specs.Choose.{greater, lesser}
 use Rattle.series.specs.Terms.{Series, l, u}
@@ -31,3 +32,8 @@ greatestLow s X (suc d) = greater (greatestLow s X d) (rawLow s X (suc d))
 unfoldable pub leastHigh : Series → ℕ → ℕ → ℤ
 leastHigh s X zero = rawHigh s X 1
 leastHigh s X (suc d) = lesser (leastHigh s X d) (rawHigh s X (suc d))
+
+-- R61: after n pairs the terms are spent: the last one is 0, rounded down, and at most 1, rounded up
+pub record Spent (s : Series) (X n : ℕ) : Type 0 where
+  pub none : l s X (2 * n) ≡ 0
+  pub little : u s X (2 * n) ≤ 1

@@ -8,7 +8,7 @@ use lib.Dec.{T, leb→le, le→leb, nleb→lt}
 use lib.IntN.{ℤ, pos, negsuc}
 use lib.Signed.{leZ, _≤ℤ_, leZ-yes}
 use Rattle.whole.specs.Choose.{greater, lesser}
-use Rattle.whole.proofs.Parts.{plus, minus, Is, own, by-test}
+use Rattle.whole.proofs.Parts.{plus, minus, Is, own, shift, by-test}
 
 own-le : (y z : ℤ) → T (leZ y z) → plus y + minus z ≤ plus z + minus y
 own-le (pos a) (pos b) t = let h = leb→le a b t in omega arith
@@ -80,6 +80,12 @@ pub ≤ℤ-trans : {x y z : ℤ} → x ≤ℤ y → y ≤ℤ z → x ≤ℤ z
     let f = le-parts (own x) (own y) .0 h in
     let g = le-parts (own y) (own z) .0 k in
     le-parts (own x) (own z) .1 (omega arith)
+
+pub ≤ℤ-antisym : {y z : ℤ} → y ≤ℤ z → z ≤ℤ y → y ≡ z
+≤ℤ-antisym {y} {z} h k =
+    let f = le-parts (own y) (own z) .0 h in
+    let g = le-parts (own z) (own y) .0 k in
+    one-number (own y) (shift (own z) (omega arith))
 
 -- a test against the lesser is one against both, and likewise of the greater
 pub le-lesser : (x y z : ℤ) → T (leZ x (lesser y z)) ↔ T (leZ x y) × T (leZ x z)

@@ -1,91 +1,32 @@
--- `series::bounds_at` meets its contract: one pair of terms after the other, up to the depth. Assumes nothing.
-use mathlib.Core.Path.{_≡_, sym, ap, _∙_}
-use Prim.Native.Nat.{ℕ, suc}
+-- `series::bounds_at` meets its contract: the bounds need no pair after the terms are spent. Assumes nothing.
+use mathlib.Core.Path.{ap, _∙_}
 use native.Mathlib.Omega.{arith}
-use lib.Dec.{lit<}
+use borrow.Author.Needs.{needs}
 use Rattle.series.specs.Sine.{sine}
-use Rattle.series.specs.Walk.{walk, biasedBounds}
-use Rattle.series.specs.declared.Walk.{Walk}
-use Rattle.series.specs.declared.Biased.{Biased}
-use Rattle.series.proofs.CodeRange.{sine-in-range}
-use Rattle.series.proofs.CodePair.{pair-fits, paired}
-use Rattle.series.proofs.CodeWalk.{begins, bounds}
+use Rattle.series.specs.Walk.{biasedBounds}
+use Rattle.series.proofs.CodeStop.{Enough, enough-spent, at-lesser}
 use Rattle.series.proofs.bounds_at.Statement.{statement}
 use Rattle.series.proofs.bounds_at.Tie as tie
 
--- the walk after each pair
-after-0 : (c : tie.After-begin) → c .begin .result ≡ walk sine (c .before .args .x .units) 0
-after-0 c = c .begin .ensures ∙ begins sine _
+enough-pairs : (c : tie.After-enough) → let X = c .before .before .args .x .units in Enough X (c .enough .result)
+enough-pairs c = rw (c .enough .ensures) (enough-spent _ (c .before .before .pre .0 .top))
 
-after-1 : (c : tie.After-deepen) → c .deepen .result ≡ walk sine (c .before .before .args .x .units) 1
-after-1 c = paired sine _ (sine-in-range _ (c .before .before .pre .0 .top)) 0 (lit< tt) _ (after-0 (c .before)) _ (c .deepen .ensures)
-
-after-2 : (c : tie.After-deepen2) → c .deepen2 .result ≡ walk sine (c .before .before .before .before .args .x .units) 2
-after-2 c = paired sine _ (sine-in-range _ (c .before .before .before .before .pre .0 .top)) 1 (lit< tt) _ (after-1 (c .before .before)) _ (c .deepen2 .ensures)
-
-after-3 : (c : tie.After-deepen3) → c .deepen3 .result ≡ walk sine (c .before .before .before .before .before .before .args .x .units) 3
-after-3 c = paired sine _ (sine-in-range _ (c .before .before .before .before .before .before .pre .0 .top)) 2 (lit< tt) _ (after-2 (c .before .before)) _ (c .deepen3 .ensures)
-
-after-4 : (c : tie.After-deepen4) → c .deepen4 .result ≡ walk sine (c .before .before .before .before .before .before .before .before .args .x .units) 4
-after-4 c = paired sine _ (sine-in-range _ (c .before .before .before .before .before .before .before .before .pre .0 .top)) 3 (lit< tt) _ (after-3 (c .before .before)) _ (c .deepen4 .ensures)
-
-after-5 : (c : tie.After-deepen5) → c .deepen5 .result ≡ walk sine (c .before .before .before .before .before .before .before .before .before .before .args .x .units) 5
-after-5 c = paired sine _ (sine-in-range _ (c .before .before .before .before .before .before .before .before .before .before .pre .0 .top)) 4 (lit< tt) _ (after-4 (c .before .before)) _ (c .deepen5 .ensures)
-
--- the bounds of a walk at the depth asked for
-at-depth : (w : Walk) (X n d : ℕ) → w ≡ walk sine X (suc n) → d ≡ suc n →
-    _≡_ {A = Biased} record { lo = w .greatest; hi = w .least } (biasedBounds sine X d)
-at-depth w X n d e f = bounds sine w X (suc n) (omega arith) e ∙ ap (biasedBounds sine X) (sym f)
-
-begin-requires : tie.Need-begin-requires
-begin-requires c κs = let top = c .pre .0 .top in (top, omega arith)
-
-deepen-requires : tie.Need-deepen-requires
-deepen-requires c κs = pair-fits sine _ (sine-in-range _ (c .before .pre .0 .top)) 0 (lit< tt) _ (after-0 c)
+bounds-after-requires : tie.Need-bounds-after-requires
+bounds-after-requires c κs =
+    let e = enough-pairs (c .before) in
+    let (angle, depth) = c .before .before .before .pre in
+    let m = e .some in
+    let n = depth .some in
+    let few = depth .few in
+    record { top = angle .top; some = omega (arith, c .lesser .ensures); few = omega (arith, c .lesser .ensures) }
 
 returns : tie.Need-returns
-returns c = at-depth _ _ 0 _ (after-1 (c .before)) (c .if1 .taken)
-
-deepen-requires-2 : tie.Need-deepen-requires-2
-deepen-requires-2 c κs = pair-fits sine _ (sine-in-range _ (c .before .before .before .pre .0 .top)) 1 (lit< tt) _ (after-1 (c .before))
-
-returns-2 : tie.Need-returns-2
-returns-2 c = at-depth _ _ 1 _ (after-2 (c .before)) (c .if2 .taken)
-
-deepen-requires-3 : tie.Need-deepen-requires-3
-deepen-requires-3 c κs = pair-fits sine _ (sine-in-range _ (c .before .before .before .before .before .pre .0 .top)) 2 (lit< tt) _ (after-2 (c .before))
-
-returns-3 : tie.Need-returns-3
-returns-3 c = at-depth _ _ 2 _ (after-3 (c .before)) (c .if3 .taken)
-
-deepen-requires-4 : tie.Need-deepen-requires-4
-deepen-requires-4 c κs = pair-fits sine _ (sine-in-range _ (c .before .before .before .before .before .before .before .pre .0 .top)) 3 (lit< tt) _ (after-3 (c .before))
-
-returns-4 : tie.Need-returns-4
-returns-4 c = at-depth _ _ 3 _ (after-4 (c .before)) (c .if4 .taken)
-
-deepen-requires-5 : tie.Need-deepen-requires-5
-deepen-requires-5 c κs = pair-fits sine _ (sine-in-range _ (c .before .before .before .before .before .before .before .before .before .pre .0 .top)) 4 (lit< tt) _ (after-4 (c .before))
-
-returns-5 : tie.Need-returns-5
-returns-5 c =
-    let depth = c .before .before .before .before .before .before .before .before .before .before .pre .1 in
-    let some = depth .some in
-    let few = depth .few in
-    at-depth _ _ 4 _ (after-5 c) (omega arith)
+returns c =
+    let l = c .before in
+    let e = enough-pairs (l .before) in
+    c .bounds-after .ensures ∙ ap (biasedBounds sine _) (l .lesser .ensures) ∙ at-lesser sine _ _ _ (e .spent) (e .some)
 
 pub bounds-at-spec : {M : Type 1} → statement M
 bounds-at-spec =
     tie.close
-    (tie.spec
-    begin-requires
-    deepen-requires
-    returns
-    deepen-requires-2
-    returns-2
-    deepen-requires-3
-    returns-3
-    deepen-requires-4
-    returns-4
-    deepen-requires-5
-    returns-5)
+    (tie.spec (λ c. search needs) (λ c κs. search needs) (λ c κs. search needs) bounds-after-requires returns)
