@@ -11,13 +11,14 @@ use lib.IntN.{ℤ}
 use Rattle.whole.proofs.Bools.{alike, by-meaning, passed, passes, fails, both, both-parts}
 use Rattle.grid.specs.Grid.{one, H-units, T-units, depths}
 use Rattle.series.specs.Sine.{sine}
-use Rattle.series.specs.Walk.{bias, biased, walk}
+use Rattle.series.specs.Walk.{bias, biased, walk, spentAt}
 use Rattle.series.specs.declared.Walk.{Walk}
 use Rattle.series.specs.declared.Biased.{Biased}
 use Rattle.series.proofs.CodeRange.{InBounds, Lo-within, Hi-within}
 use Rattle.series.proofs.CodeBias.{biased-parts, biased-small}
 use Rattle.series.proofs.Between.{Lo-le-Hi}
 use Rattle.series.proofs.CodeWalk.{bounds}
+use Rattle.series.proofs.CodeStop.{spent-walk}
 use Rattle.orbit.specs.Cell.{Orbit, orbitAt}
 use Rattle.orbit.specs.declared.Span.{Span}
 use Rattle.ends.specs.Ends.{belowAt, aboveAt, belowBy, aboveBy, endBy, boundOf, endAt}
@@ -25,7 +26,7 @@ use Rattle.ends.specs.declared.AtDepth.{AtDepth}
 use Rattle.ends.specs.declared.Corner.{Corner}
 use Rattle.ends.specs.Corner.{oneMean, cornerOf, testBy, ownBound, atDepth, WalkIn}
 use Rattle.ends.proofs.InNaturals.{below-test, above-test}
-use Rattle.ends.proofs.Corners.{NoWorse, below-corners, above-corners, better, deeper}
+use Rattle.ends.proofs.Corners.{NoWorse, below-corners, above-corners, better, deeper, spent-alike}
 
 -- the grid's test of an upper end, or of a lower one
 abbrev gridBy : Bool → Orbit → ℕ → ℤ → Bool
@@ -157,6 +158,11 @@ module _ (X : ℕ) (x : X ≤ T-units) (w : Walk) (n : ℕ) (at : w ≡ walk sin
         now-settled upper least most w (endAt upper c d X) e
         (λ t. passes (endAt upper c d X) (deeper upper c X k (passed (endAt upper c (suc n) X) (t ∙ own-test upper))))
         (λ f. other-test upper f d j)
+
+    -- and so is what a depth says whose terms are spent
+    pub spent-on : (upper : Bool) → spentAt w ≡ true
+        → (d : ℕ) → suc n ≤ d → atDepth upper least most w .accepts ≡ endAt upper (oneMean m a) d X
+    spent-on upper t d k = own-test upper ∙ sym (spent-alike upper (oneMean m a) X (spent-walk sine w X (suc n) at t) (omega arith) d k)
 
     -- what doesn't settle doesn't accept
     pub goes-on : (upper : Bool) → atDepth upper least most w .settles ≡ false → false ≡ endAt upper (oneMean m a) (suc n) X

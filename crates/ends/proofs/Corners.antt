@@ -1,5 +1,5 @@
 -- The test of a cell is the grid's test at both corners, and a better bound accepts no less. Assumes nothing.
-use mathlib.Core.Path.{_≡_}
+use mathlib.Core.Path.{_≡_, ap}
 use mathlib.Core.Bool.{Bool, true, false}
 use mathlib.Core.Logic.{_↔_}
 use Prim.Native.Nat.{ℕ, _≤_, _*_}
@@ -12,7 +12,10 @@ use Rattle.whole.proofs.Bools.{alike}
 use Rattle.whole.proofs.Parts.{plus, minus, own}
 use Rattle.whole.proofs.Order.{le-parts, le-lesser, greater-le}
 use Rattle.grid.specs.Grid.{one}
+use Rattle.series.specs.Bounds.{Spent}
+use Rattle.series.specs.Sine.{sine}
 use Rattle.series.proofs.Deeper.{Lo-rises, Hi-falls}
+use Rattle.series.proofs.Stays.{low-stays, high-stays}
 use Rattle.orbit.specs.Cell.{Orbit, orbitAt, gridCell}
 use Rattle.orbit.specs.declared.Cell.{Cell}
 use Rattle.ends.specs.Ends.{belowAt, aboveAt, belowBy, aboveBy, endBy, boundOf, endAt}
@@ -74,6 +77,11 @@ bounds-deeper false X {d} {e} h = Lo-rises X d e h
 -- R22: accepted at a depth is accepted at every greater one
 pub deeper : (upper : Bool) (c : Cell) (X : ℕ) {d e : ℕ} → d ≤ e → T (endAt upper c d X) → T (endAt upper c e X)
 deeper upper c X h = better upper c X _ _ (bounds-deeper upper X h)
+
+-- R61: from spent terms on every depth says the same
+pub spent-alike : (upper : Bool) (c : Cell) (X : ℕ) {n : ℕ} → Spent sine X n → 1 ≤ n → (d : ℕ) → n ≤ d → endAt upper c d X ≡ endAt upper c n X
+spent-alike true c X h some d k = ap (aboveBy c X) (high-stays h some d k)
+spent-alike false c X h some d k = ap (belowBy c X) (low-stays h some d k)
 
 -- an upper end of one M is one of every lesser M
 pub lesser-mean : (m n a X : ℕ) (b : ℤ) → m ≤ n → T (aboveAt (orbitAt n a) X b) → T (aboveAt (orbitAt m a) X b)
