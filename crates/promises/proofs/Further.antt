@@ -1,22 +1,27 @@
 -- The further promises of the rules are kept. Assumes nothing.
-use mathlib.Core.Path.{_≡_, refl, subst}
+use mathlib.Core.Path.{_≡_, refl, sym, ap, ap₂, _∙_, subst}
 use mathlib.Core.Bool.{Bool, true, false}
-use mathlib.Core.List.{[], _∷_}
+use mathlib.Core.List.{[], _∷_, _++_}
 use Prim.Native.Nat.{ℕ, _+_, _^_, _≤_, _<_}
 use native.Mathlib.Omega.{arith}
 use lib.IntN.{ℤ, natAbs}
 use lib.Ieee.{binary64, ofBits}
 use Rattle.grid.specs.Grid.{T-units, depths}
-use Rattle.grid.specs.Codes.{depth-check}
+use Rattle.grid.specs.Codes.{Check, number, done, bad-depth, checked, depth-check, x-check, signed-x-check}
 use Rattle.grid.proofs.FirstCode.{split, join}
 use Rattle.grid.proofs.Fits.{depth-passes}
 use Rattle.series.proofs.Factorial.{den-is, num-is}
 use Rattle.series.proofs.Falling.{sine-odd-never-falls, sine-even-never-rises}
+use Rattle.series.specs.Bounds.{Spent}
+use Rattle.series.specs.Sine.{sine}
+use Rattle.series.specs.Entry.{sineRefused, sineBounds, sineRule}
+use Rattle.series.specs.declared.SineBounds.{SineBounds}
 use Rattle.series.proofs.Deeper.{Lo-rises, Hi-falls}
-use Rattle.orbit.specs.Mirror.{mirrorEnd}
+use Rattle.series.proofs.Stays.{low-stays, high-stays, spent-angles}
+use Rattle.orbit.specs.Mirror.{mirror, mirrorEnd}
 use Rattle.orbit.specs.Given.{Given, checksOf, mirroredOf, cellOf}
 use Rattle.orbit.proofs.Posed.{problem-in}
-use Rattle.ends.specs.Entry.{flagged, endRule}
+use Rattle.ends.specs.Entry.{endRefused, flagged, endRule}
 use Rattle.ends.proofs.Corners as tests
 use Rattle.ends.proofs.Known.{zero-lower, T-never}
 use Rattle.enclosure.specs.Halving.{widest, lastBracket}
@@ -33,6 +38,18 @@ use Rattle.promises.proofs.Alike.{mirrored, doubles-met}
 use Rattle.promises.proofs.Mirror.{at-0}
 use Rattle.promises.proofs.Ends.{accepted-says, accepts, accepts-at, declines-at}
 
+-- the check of a depth within its limits is that of another
+same-check : (d e : ℕ) → 1 ≤ d → d ≤ depths → 1 ≤ e → e ≤ depths → depth-check d ≡ depth-check e
+same-check d e i j k m =
+    ap (λ (t : Bool). record { fails = t; code = bad-depth }) (depth-passes d i j ∙ sym (depth-passes e k m))
+
+spent-sine : (X n d : ℕ) → Spent sine X n → 1 ≤ n → n ≤ d → d ≤ depths → sineRule X d ≡ sineRule X n
+unfolding sineRule
+spent-sine X n d h some k few =
+    let e : sineBounds X d ≡ sineBounds X n = ap₂ (λ (low high : ℤ). record { code = number done; lo = low; hi = high }) (low-stays h some d k) (high-stays h some d k) in
+    ap₂ (λ (c : Check) (r : SineBounds). checked (c ∷ x-check X ∷ []) sineRefused r)
+    (same-check d n (omega arith) few some (omega arith)) e
+
 sums : Sums
 sums =
     record {
@@ -42,6 +59,10 @@ sums =
       even-never-rises = sine-even-never-rises;
       low-rises = Lo-rises;
       high-falls = Hi-falls;
+      spent-low = λ s X n d h some k. low-stays h some d k;
+      spent-high = λ s X n d h some k. high-stays h some d k;
+      spent-angles = spent-angles;
+      spent-sine = spent-sine;
     }
 
 -- ---- the end tests
@@ -56,6 +77,13 @@ deeper upper x g d e h few s =
     accepts upper x g e (join (checksOf g) (depth-check e ∷ []) cell (depth-passes e (omega arith) few, tt)) (f .side)
     (tests.deeper (mirrorEnd (mirroredOf g) upper) (cellOf g) (natAbs x) h t)
 
+spent-ends : (upper : Bool) (x : ℤ) (g : Given) (n d : ℕ) → Spent sine (natAbs x) n → 1 ≤ n → n ≤ d → d ≤ depths
+    → endRule upper x g d ≡ endRule upper x g n
+spent-ends upper x g n d h some k few =
+    ap₂ (λ (c : Check) (t : Bool). checked ((checksOf g ++ c ∷ []) ++ signed-x-check (mirror (mirroredOf g) x) ∷ []) endRefused (flagged t))
+    (same-check d n (omega arith) few some (omega arith))
+    (tests.spent-alike (mirrorEnd (mirroredOf g) upper) (cellOf g) (natAbs x) h some d k)
+
 end-laws : Ends
 end-laws =
     record {
@@ -65,6 +93,7 @@ end-laws =
       upper-grid = tests.above-grid;
       lower-deeper = deeper false;
       upper-deeper = deeper true;
+      spent-ends = spent-ends;
       zero-always = λ g d p.
           subst (λ (x : ℤ). endRule (mirrorEnd (mirroredOf g) false) x g d ≡ flagged true) (at-0 (mirroredOf g))
           (accepts-at false 0 g d p (omega arith) (zero-lower (cellOf g) d));

@@ -32,6 +32,7 @@ unique =
       answer-file = λ input before r s e f. both (e .result ∙ sym (f .result)) (e .answers ∙ sym (f .answers));
       limited = λ n limit code. one _;
       earlier = λ code next. one _;
+      spent = λ w. one _;
       on-grid = λ m a. one _;
       step-down = λ x n. one _;
       step-up = λ x n. one _;

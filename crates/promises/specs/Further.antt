@@ -13,9 +13,12 @@ use lib.ListN.{length}
 use Rattle.whole.specs.Sign.{negative}
 use Rattle.grid.specs.Grid.{one, H-units, T-units, depths}
 use Rattle.grid.specs.Codes.{Passed, number, done, no-upper-end}
+use Rattle.series.specs.Terms.{Series}
+use Rattle.series.specs.Bounds.{greatestLow, leastHigh, Spent}
 use Rattle.series.specs.Exact as exact
 use Rattle.series.specs.Factorial.{factorial}
-use Rattle.series.specs.Sine.{sine, Lo, Hi}
+use Rattle.series.specs.Sine.{sine, Lo, Hi, lastSpent}
+use Rattle.series.specs.Entry.{sineRule}
 use Rattle.orbit.specs.Cell.{orbitAt, gridCell}
 use Rattle.orbit.specs.Mirror.{mirror, mirrorEnd}
 use Rattle.orbit.specs.Given.{Given, grid, doubles, mirroredOf, cellOf, exactOf, Possible, checksOf, problemChecks}
@@ -51,6 +54,13 @@ pub record Sums : Type 0 where
   -- R13: a greater depth has no worse bounds
   pub low-rises : (X d other : ℕ) → d ≤ other → Lo X d ≤ℤ Lo X other
   pub high-falls : (X d other : ℕ) → d ≤ other → Hi X other ≤ℤ Hi X d
+  -- R61: from spent terms on the best bounds are the same numbers at every greater depth, of any series
+  pub spent-low : (s : Series) (X n d : ℕ) → Spent s X n → 1 ≤ n → n ≤ d → greatestLow s X d ≡ greatestLow s X n
+  pub spent-high : (s : Series) (X n d : ℕ) → Spent s X n → 1 ≤ n → n ≤ d → leastHigh s X d ≡ leastHigh s X n
+  -- R61: and sine's are spent exactly up to these angles
+  pub spent-angles : (X n : ℕ) → 1 ≤ n → n ≤ depths → Spent sine X n ↔ X ≤ lastSpent n
+  -- R61: so the entry answers alike
+  pub spent-sine : (X n d : ℕ) → Spent sine X n → 1 ≤ n → n ≤ d → d ≤ depths → sineRule X d ≡ sineRule X n
 
 pub record Ends : Type 0 where
   -- R17, R18: a cell's test holds exactly where the grid's holds at both corners, by any bound
@@ -64,6 +74,9 @@ pub record Ends : Type 0 where
   -- R22
   pub lower-deeper : (x : ℤ) (g : Given) (d other : ℕ) → d ≤ other → other ≤ depths → lowerRule x g d ≡ flagged true → lowerRule x g other ≡ flagged true
   pub upper-deeper : (x : ℤ) (g : Given) (d other : ℕ) → d ≤ other → other ≤ depths → upperRule x g d ≡ flagged true → upperRule x g other ≡ flagged true
+  -- R61: from spent terms on both tests answer alike
+  pub spent-ends : (upper : Bool) (x : ℤ) (g : Given) (n d : ℕ) → Spent sine (natAbs x) n → 1 ≤ n → n ≤ d → d ≤ depths
+      → endRule upper x g d ≡ endRule upper x g n
   -- R23: as a lower end 0 is always accepted and T never, and for a negative M 0 and -T as an upper end
   pub zero-always : (g : Given) (d : ℕ) → Passed (problemChecks g d) → endRule (mirrorEnd (mirroredOf g) false) (pos 0) g d ≡ flagged true
   pub T-never : (g : Given) (d : ℕ) → Passed (problemChecks g d)

@@ -17,7 +17,9 @@ use Rattle.grid.specs.Make.{codedAngle, codedSigned, codedEccentricity, codedDe
 use Rattle.grid.specs.declared.CodedAngle.{CodedAngle}
 use Rattle.grid.specs.declared.CodedEccentricity.{CodedEccentricity}
 use Rattle.grid.specs.declared.CodedDepth.{CodedDepth}
+use Rattle.series.specs.Walk.{spentAt}
 use Rattle.series.specs.Entry.{sineRule}
+use Rattle.series.specs.declared.Walk.{Walk}
 use Rattle.series.specs.declared.SineBounds.{SineBounds}
 use Rattle.orbit.specs.Mirror as mirrors
 use Rattle.orbit.specs.Mirror.{mirrorEnd}
@@ -77,11 +79,12 @@ pub record Unique : Type 0 where
   pub cell : (g : Given) → OneResult (λ (r : CodedCell). r ≡ codedCell g)
   pub problem : (g : Given) (depth : ℕ) → OneResult (λ (r : CodedProblem). r ≡ codedProblem g depth)
   pub in-units : (value : Float) (limit code : ℕ) → OneResult (λ (r : CodedUnits). r ≡ codedUnits value limit code)
-  -- the functions that crates share: the program's, the codes', a cell of the grid, the clamps into 0 to T, a verdict's number,
-  -- signs and the mirror
+  -- the functions that crates share: the program's, the codes', whether a walk's terms are spent, a cell of the grid, the clamps
+  -- into 0 to T, a verdict's number, signs and the mirror
   pub answer-file : (input before : List ℕ) → OneResult (FileAllows input before)
   pub limited : (n limit code : ℕ) → OneResult (λ (r : ℕ). r ≡ cond (ltb limit n) code (codes.number codes.done))
   pub earlier : (code next : ℕ) → OneResult (λ (r : ℕ). r ≡ codes.earlier code next)
+  pub spent : (w : Walk) → OneResult (λ (r : Bool). r ≡ spentAt w)
   pub on-grid : (m a : ℕ) → OneResult (λ (r : Cell). r ≡ gridCell m a)
   pub step-down : (x n : ℕ) → OneResult (λ (r : ℕ). r ≡ x - n)
   pub step-up : (x n : ℕ) → OneResult (λ (r : ℕ). r ≡ min (x + n) T-units)
