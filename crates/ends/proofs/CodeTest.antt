@@ -159,11 +159,12 @@ module _ (X : ℕ) (x : X ≤ T-units) (w : Walk) (n : ℕ) (at : w ≡ walk sin
         (λ t. passes (endAt upper c d X) (deeper upper c X k (passed (endAt upper c (suc n) X) (t ∙ own-test upper))))
         (λ f. other-test upper f d j)
 
-    -- and so is what a depth says whose terms are spent
-    pub spent-on : (upper : Bool) → spentAt w ≡ true
-        → (d : ℕ) → suc n ≤ d → atDepth upper least most w .accepts ≡ endAt upper (oneMean m a) d X
-    spent-on upper t d k = own-test upper ∙ sym (spent-alike upper (oneMean m a) X (spent-walk sine w X (suc n) at t) (omega arith) d k)
-
     -- what doesn't settle doesn't accept
     pub goes-on : (upper : Bool) → atDepth upper least most w .settles ≡ false → false ≡ endAt upper (oneMean m a) (suc n) X
     goes-on upper e = sym (now-unsettled upper least most w e) ∙ own-test upper
+
+    -- nor does any greater depth accept it, where the terms are spent
+    pub stops-on : (upper : Bool) → atDepth upper least most w .settles ≡ false → spentAt w ≡ true
+        → (d : ℕ) → suc n ≤ d → false ≡ endAt upper (oneMean m a) d X
+    stops-on upper e t d k =
+        goes-on upper e ∙ sym (spent-alike upper (oneMean m a) X (spent-walk sine w X (suc n) at t) (omega arith) d k)

@@ -96,8 +96,8 @@ fn at_depth(least: Corner, most: Corner, w: Walk, upper: bool) -> AtDepth
     }
 }
 
-// The end test of one M and a span of A, settled at the first depth that settles it, or whose terms are spent (R61): then every
-// greater depth says the same.
+// The end test of one M and a span of A, settled at the first depth that settles it. Where the terms are spent (R61), what isn't
+// accepted is accepted at no greater depth.
 fn settle(m: u64, a: Span, depth: Depth, x: Angle, upper: bool) -> bool
     requires { ⌜ Settling m a depth x ⌝ }
     ensures { λ r. ⌜ r ≡ endAt upper (oneMean m a) (depth .pairs) (x .units) ⌝ }
@@ -110,10 +110,10 @@ fn settle(m: u64, a: Span, depth: Depth, x: Angle, upper: bool) -> bool
     loop {
         w = series::further(w);
         let now = at_depth(least, most, w, upper);
-        if now.settles || series::spent(w) {
+        if now.settles {
             return now.accepts;
         }
-        if w.pairs == pairs {
+        if w.pairs == pairs || series::spent(w) {
             return false;
         }
     }

@@ -2,14 +2,14 @@
 -- believed.
 use Prim.Native.Nat.{ℕ, zero, suc, _+_, _-_, _*_, _≤_, _<_, max, min}
 use mathlib.Core.Path.{_≡_}
-use mathlib.Core.Bool.{Bool, cond, _&&_}
+use mathlib.Core.Bool.{Bool, _&&_}
 use lib.Dec.{eqb, leb}
 use lib.IntN.{ℤ, pos, negsuc}
 use Rattle.grid.specs.Grid.{one, T-units, depths}
 use Rattle.whole.specs.Round.{down, up}
 use Rattle.series.specs.Terms.{Series, l, u, Q-, Q+}
 use Rattle.series.specs.Bounds.{rawLow, rawHigh, greatestLow, leastHigh}
-use Rattle.series.specs.Sine.{sine, lastSpent}
+use Rattle.series.specs.Sine.{sine}
 use Rattle.series.specs.declared.Walk.{Walk}
 use Rattle.series.specs.declared.Biased.{Biased}
 
@@ -102,12 +102,6 @@ deepened w odd even =
 abbrev pub spentAt : Walk → Bool
 spentAt w = eqb (w .down) 0 && leb (w .up) 1
 
--- R61: and after how many pairs they are, by the angle
-abbrev pub enoughPairs : ℕ → ℕ
-enoughPairs X =
-    cond (leb X (lastSpent 1)) 1
-    (cond (leb X (lastSpent 2)) 2 (cond (leb X (lastSpent 3)) 3 (cond (leb X (lastSpent 4)) 4 depths)))
-
 -- ---- what the steps ask for, so that nothing overflows
 
 -- 2^31: six terms of a sign stay below the bias
@@ -135,12 +129,6 @@ pub record PairFits (w : Walk) (odd even : ℕ) : Type 0 where
   pub up1 : TermFits (oddUp w odd) (w .ceiling) even
   pub low : Room (w .low) (w .down) (oddUp w odd)
   pub high : Room (w .high) (evenUp w odd even) (oddDown w odd)
-
--- an angle, and how many pairs of sine's terms are made
-pub record PairsIn (X n : ℕ) : Type 0 where
-  pub top : X ≤ T-units
-  pub some : 1 ≤ n
-  pub few : n ≤ depths
 
 -- sine's walk with a pair to go
 pub record Unfinished (w : Walk) : Type 0 where

@@ -6,7 +6,7 @@ ghost use Rattle.grid.specs.Grid.{one, T-units};
 ghost use Rattle.grid.specs.Limits.{AngleIn, DepthIn};
 ghost use Rattle.whole.specs.Round.{down, up};
 ghost use Rattle.series.specs.Sine.{sine};
-ghost use Rattle.series.specs.Walk.{bias, biasedBounds, walk, begun, deepened, spentAt, enoughPairs, term-limit, TermFits, PairFits, PairsIn, Unfinished};
+ghost use Rattle.series.specs.Walk.{bias, biasedBounds, walk, begun, deepened, spentAt, term-limit, TermFits, PairFits, Unfinished};
 ghost use Rattle.series.specs.Entry.{sineBounds, sineRule};
 use grid::Angle;
 use grid::Depth;
@@ -156,60 +156,38 @@ pub fn spent(w: Walk) -> bool
 
 // R61: the greatest angles at which the terms are spent after one pair, after two, after three and after four.
 const SPENT_1: u64 = 14_417_715;
+
 const SPENT_2: u64 = 128_808_899;
+
 const SPENT_3: u64 = 341_821_575;
+
 const SPENT_4: u64 = 614_482_590;
 
-// R61: how many pairs are enough at an angle. The angle is known before its terms are, so that this costs less than a test of them.
-fn enough(x: u64) -> u64
-    ensures { λ r. ⌜ r ≡ enoughPairs x ⌝ }
-{
-    if x <= SPENT_1 {
-        return 1;
-    }
-    if x <= SPENT_2 {
-        return 2;
-    }
-    if x <= SPENT_3 {
-        return 3;
-    }
-    if x <= SPENT_4 {
-        return 4;
-    }
-    5
-}
-
-// The bounds after n pairs, biased. The pairs stand one after the other, each with its divisors, which is faster than a choice
-// for each.
-fn bounds_after(x: u64, n: u64) -> Biased
-    requires { ⌜ PairsIn x n ⌝ }
-    ensures { λ r. ⌜ r ≡ biasedBounds sine x n ⌝ }
-{
-    let mut w = deepen(begin(x, x), 6, 20);
-    if n == 1 {
-        return best(w);
-    }
-    w = deepen(w, 42, 72);
-    if n == 2 {
-        return best(w);
-    }
-    w = deepen(w, 110, 156);
-    if n == 3 {
-        return best(w);
-    }
-    w = deepen(w, 210, 272);
-    if n == 4 {
-        return best(w);
-    }
-    best(deepen(w, 342, 420))
-}
-
-// Lo and Hi, biased. No pair is made after the terms are spent.
+// Lo and Hi, biased. The pairs stand one after the other, each with its divisors, which is faster than a choice for each. That
+// the terms are spent is told by the angle, which a processor knows long before them.
 fn bounds_at(x: Angle, d: Depth) -> Biased
     requires { ⌜ AngleIn x × DepthIn d ⌝ }
     ensures { λ r. ⌜ r ≡ biasedBounds sine (x .units) (d .pairs) ⌝ }
 {
-    bounds_after(x.units, lesser(d.pairs as u64, enough(x.units)))
+    let n = d.pairs;
+    let angle = x.units;
+    let mut w = deepen(begin(angle, angle), 6, 20);
+    if n == 1 || angle <= SPENT_1 {
+        return best(w);
+    }
+    w = deepen(w, 42, 72);
+    if n == 2 || angle <= SPENT_2 {
+        return best(w);
+    }
+    w = deepen(w, 110, 156);
+    if n == 3 || angle <= SPENT_3 {
+        return best(w);
+    }
+    w = deepen(w, 210, 272);
+    if n == 4 || angle <= SPENT_4 {
+        return best(w);
+    }
+    best(deepen(w, 342, 420))
 }
 
 // The signed number that was biased.

@@ -1,5 +1,5 @@
--- `ends::settle` meets its contract: the walk goes on until a depth accepts, rules every depth out, or is the one asked for.
--- Assumes nothing.
+-- `ends::settle` meets its contract: the walk goes on until a depth accepts, rules every depth out, is the one asked for, or has
+-- spent terms. Assumes nothing.
 use mathlib.Core.Path.{_≡_, sym, ap, ap₂, _∙_}
 use mathlib.Core.Logic.{inl, inr}
 use Prim.Native.Nat.{ℕ, suc, _-_, _≤_, _<_}
@@ -15,7 +15,7 @@ use Rattle.ends.specs.Ends.{endAt}
 use Rattle.ends.specs.Corner.{oneMean, cornerOf, atDepth, WalkIn}
 use Rattle.ends.specs.declared.Corner.{Corner}
 use Rattle.ends.specs.declared.AtDepth.{AtDepth}
-use Rattle.ends.proofs.CodeTest.{walk-in, settles-on, spent-on, goes-on}
+use Rattle.ends.proofs.CodeTest.{walk-in, settles-on, goes-on, stops-on}
 use Rattle.ends.proofs.settle.Statement.{statement}
 use Rattle.ends.proofs.settle.Tie as tie
 
@@ -94,26 +94,25 @@ returns c =
     let s = f .before .before .before .before .before .before in
     let g = s .args in
     let e = corners-say (c .before) in
-    let far : suc (f .before .loop .w .pairs) ≤ g .depth .pairs = omega (arith, f .before .loop .inv .1) in
     ap (λ (t : AtDepth). t .accepts) e
-    ∙ elim (c .if1 .came) [
-      | inl t ↦
-          settles-on (g .x .units) (s .pre .angle .top) (f .further .result) _ (next f) (few f) (g .m) (g .a) (g .upper)
-          (sym (ap (λ (t : AtDepth). t .settles) e) ∙ t .taken) (g .depth .pairs) far (s .pre .depth .few)
-      | inr p ↦
-          spent-on (g .x .units) (s .pre .angle .top) (f .further .result) _ (next f) (few f) (g .m) (g .a) (g .upper)
-          (sym (p .1 .ensures) ∙ p .2 .taken) (g .depth .pairs) far
-    ]
+    ∙ settles-on (g .x .units) (s .pre .angle .top) (f .further .result) _ (next f) (few f) (g .m) (g .a) (g .upper)
+    (sym (ap (λ (t : AtDepth). t .settles) e) ∙ c .if1 .taken) (g .depth .pairs) (omega (arith, f .before .loop .inv .1)) (s .pre .depth .few)
 
 returns-2 : tie.Need-returns-2 Inv-loop μ-loop
 returns-2 c =
-    let e = c .before .before .before .before in
+    let e = c .before .before in
     let f = e .before .before in
     let s = f .before .before .before .before .before .before in
     let g = s .args in
-    goes-on (g .x .units) (s .pre .angle .top) (f .further .result) _ (next f) (few f) (g .m) (g .a) (g .upper)
-    (sym (ap (λ (t : AtDepth). t .settles) (corners-say (e .before))) ∙ e .if1 .left)
-    ∙ ap (λ (n : ℕ). endAt (g .upper) (oneMean (g .m) (g .a)) n (g .x .units)) (sym (pairs-is f) ∙ c .if3 .taken)
+    let unsettled = sym (ap (λ (t : AtDepth). t .settles) (corners-say (e .before))) ∙ e .if1 .left in
+    elim (c .if2 .came) [
+      | inl t ↦
+          goes-on (g .x .units) (s .pre .angle .top) (f .further .result) _ (next f) (few f) (g .m) (g .a) (g .upper) unsettled
+          ∙ ap (λ (n : ℕ). endAt (g .upper) (oneMean (g .m) (g .a)) n (g .x .units)) (sym (pairs-is f) ∙ t .taken)
+      | inr p ↦
+          stops-on (g .x .units) (s .pre .angle .top) (f .further .result) _ (next f) (few f) (g .m) (g .a) (g .upper) unsettled
+          (sym (p .1 .ensures) ∙ p .2 .taken) (g .depth .pairs) (omega (arith, f .before .loop .inv .1))
+    ]
 
 loop-less : tie.Need-loop-less Inv-loop μ-loop
 loop-less c = let f = c .before .before .before .before .before .before in let k = pairs-is f in omega (arith, f .before .loop .inv .1)
@@ -122,7 +121,7 @@ loop-again : tie.Need-loop-again Inv-loop μ-loop
 loop-again c =
     let f = c .before .before .before .before .before .before in
     let k = pairs-is f in
-    (own-pairs _ _ _ (next f), omega (arith, f .before .loop .inv .1, c .if3 .left))
+    (own-pairs _ _ _ (next f), omega (arith, f .before .loop .inv .1, c .before .before .if2 .left))
 
 pub settle-spec : {M : Type 1} → statement M
 settle-spec =
@@ -137,8 +136,8 @@ settle-spec =
     loop-holds
     further-requires
     at-depth-requires
-    (λ c κs. search needs)
     returns
+    (λ c κs. search needs)
     returns-2
     loop-less
     loop-again)
