@@ -5,6 +5,7 @@ use Prim.Native.Nat.{ℕ, suc, _*_, _≤_}
 use native.Mathlib.Omega.{arith}
 use lib.Dec.{eqb, leb, leb→le, eqb→eq}
 use lib.IntN.{ℤ}
+use borrow.Author.Tests.{leb-true}
 use Rattle.whole.proofs.Bools.{passed, both-parts}
 use Rattle.grid.specs.Grid.{depths}
 use Rattle.series.specs.Terms.{Series, l, u}
@@ -16,15 +17,15 @@ use Rattle.series.specs.declared.Biased.{Biased}
 use Rattle.series.proofs.CodeWalk.{bounds}
 use Rattle.series.proofs.Stays.{low-stays, high-stays, spent-angles}
 
--- the bounds that a walk has come to are those of the depth that was asked for, and of every greater one where the terms are spent
-module _ (w : Walk) (X n d : ℕ) (e : w ≡ walk sine X (suc n)) where
-  pub at-depth : d ≡ suc n → _≡_ {A = Biased} record { lo = w .greatest; hi = w .least } (biasedBounds sine X d)
-  at-depth f = bounds sine w X (suc n) (omega arith) e ∙ ap (biasedBounds sine X) (sym f)
+-- the bounds that a walk has come to are those of its depth, and of every greater one where the terms are spent
+module _ {w : Walk} {X n d : ℕ} where
+  pub at-depth : d ≡ suc n → w ≡ walk sine X (suc n) → _≡_ {A = Biased} record { lo = w .greatest; hi = w .least } (biasedBounds sine X d)
+  at-depth f e = bounds sine w X (suc n) (omega arith) e ∙ ap (biasedBounds sine X) (sym f)
 
-  pub at-spent : X ≤ lastSpent (suc n) → suc n ≤ d → suc n ≤ depths
+  pub at-spent : leb X (lastSpent (suc n)) ≡ true → suc n ≤ d → suc n ≤ depths → w ≡ walk sine X (suc n)
       → _≡_ {A = Biased} record { lo = w .greatest; hi = w .least } (biasedBounds sine X d)
-  at-spent h k few =
-      let s = spent-angles X (suc n) (omega arith) few .1 h in
+  at-spent t k few e =
+      let s = spent-angles X (suc n) (omega arith) few .1 (leb-true X (lastSpent (suc n)) t) in
       bounds sine w X (suc n) (omega arith) e
       ∙ sym (ap₂ (λ (low high : ℤ). record { lo = biased low; hi = biased high }) (low-stays s (omega arith) d k) (high-stays s (omega arith) d k))
 

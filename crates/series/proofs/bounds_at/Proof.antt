@@ -1,13 +1,10 @@
 -- `series::bounds_at` meets its contract: one pair of terms after the other, up to the depth or until the terms are spent.
 -- Assumes nothing.
-use mathlib.Core.Path.{_≡_, sym, ap, _∙_}
-use mathlib.Core.Logic.{inl, inr}
-use Prim.Native.Nat.{ℕ, suc, _≤_}
+use mathlib.Core.Path.{_≡_, _∙_}
+use mathlib.Core.Logic.{⊎-elim}
 use native.Mathlib.Omega.{arith}
-use lib.Dec.{lit<}
+use lib.Dec.{lit<, lit≤}
 use borrow.Author.Needs.{needs}
-use borrow.Author.Tests.{leb-true}
-use Rattle.grid.specs.Grid.{T-units}
 use Rattle.series.specs.Sine.{sine}
 use Rattle.series.specs.Walk.{walk}
 use Rattle.series.proofs.CodeRange.{sine-in-range}
@@ -78,41 +75,29 @@ returns : tie.Need-returns
 returns c =
     let w = c .before .before in
     let some = call-1 w .pre .1 .some in
-    c .best .ensures
-    ∙ elim (c .before .if1 .came) [
-      | inl t ↦ at-depth _ _ 0 _ (after-1 w) (t .taken)
-      | inr p ↦ at-spent _ _ 0 _ (after-1 w) (leb-true _ _ (p .1 .taken)) (omega arith) (omega arith)
-    ]
+    let e = after-1 w in
+    c .best .ensures ∙ ⊎-elim (λ t. at-depth (t .taken) e) (λ p. at-spent (p .1 .taken) (omega arith) (lit≤ tt) e) (c .before .if1 .came)
 
 returns-2 : tie.Need-returns-2
 returns-2 c =
     let w = c .before .before in
     let some = call-2 w .pre .1 .some in
-    c .best2 .ensures
-    ∙ elim (c .before .if3 .came) [
-      | inl t ↦ at-depth _ _ 1 _ (after-2 w) (t .taken)
-      | inr p ↦ at-spent _ _ 1 _ (after-2 w) (leb-true _ _ (p .1 .taken)) (omega arith) (omega arith)
-    ]
+    let e = after-2 w in
+    c .best2 .ensures ∙ ⊎-elim (λ t. at-depth (t .taken) e) (λ p. at-spent (p .1 .taken) (omega arith) (lit≤ tt) e) (c .before .if3 .came)
 
 returns-3 : tie.Need-returns-3
 returns-3 c =
     let w = c .before .before in
     let some = call-3 w .pre .1 .some in
-    c .best3 .ensures
-    ∙ elim (c .before .if5 .came) [
-      | inl t ↦ at-depth _ _ 2 _ (after-3 w) (t .taken)
-      | inr p ↦ at-spent _ _ 2 _ (after-3 w) (leb-true _ _ (p .1 .taken)) (omega arith) (omega arith)
-    ]
+    let e = after-3 w in
+    c .best3 .ensures ∙ ⊎-elim (λ t. at-depth (t .taken) e) (λ p. at-spent (p .1 .taken) (omega arith) (lit≤ tt) e) (c .before .if5 .came)
 
 returns-4 : tie.Need-returns-4
 returns-4 c =
     let w = c .before .before in
     let some = call-4 w .pre .1 .some in
-    c .best4 .ensures
-    ∙ elim (c .before .if7 .came) [
-      | inl t ↦ at-depth _ _ 3 _ (after-4 w) (t .taken)
-      | inr p ↦ at-spent _ _ 3 _ (after-4 w) (leb-true _ _ (p .1 .taken)) (omega arith) (omega arith)
-    ]
+    let e = after-4 w in
+    c .best4 .ensures ∙ ⊎-elim (λ t. at-depth (t .taken) e) (λ p. at-spent (p .1 .taken) (omega arith) (lit≤ tt) e) (c .before .if7 .came)
 
 returns-5 : tie.Need-returns-5
 returns-5 c =
@@ -123,7 +108,7 @@ returns-5 c =
     let one = two .before .before .before in
     let depth = call-5 w .pre .1 in
     c .best5 .ensures
-    ∙ at-depth _ _ 4 _ (after-5 w) (omega (arith, depth .some, depth .few, one .if1 .left, two .if3 .left, three .if5 .left, four .if7 .left))
+    ∙ at-depth (omega (arith, depth .some, depth .few, one .if1 .left, two .if3 .left, three .if5 .left, four .if7 .left)) (after-5 w)
 
 pub bounds-at-spec : {M : Type 1} → statement M
 bounds-at-spec =
