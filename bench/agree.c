@@ -132,19 +132,25 @@ static void compare_entries(const struct call *calls, size_t count)
     compare_batches(calls, count);
 }
 
-/* The inputs times 1 or -1. */
+/* The inputs times 1 or -1; a small angle is an estimate too. */
 static void compare_inputs(int sign)
 {
-    static struct call calls[INPUTS];
+    static struct call calls[INPUTS], small_calls[INPUTS];
     int i;
 
     for (i = 0; i < INPUTS; i++) {
+        int32_t x = sign * small_angles[i];
         struct call c = { sign * anomalies[i], sign * angles[i],
                           sign * estimates[i], eccentricities[i], DEPTH };
+        struct call small = { sign * small_anomalies[i], x,
+                              x * STRIPEAWN_UNIT, great_eccentricities[i],
+                              DEPTH };
 
         calls[i] = c;
+        small_calls[i] = small;
     }
     compare_entries(calls, INPUTS);
+    compare_entries(small_calls, INPUTS);
 }
 
 int sides_agree(void)

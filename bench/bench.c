@@ -8,6 +8,11 @@
 ** rounds counts, so that the ratios mean something on a busy machine. NOTE,
 ** if given, is printed with the figures. The last lines have what doubles
 ** cost: the library's entries that take them against those of the grid.
+**
+** The library makes no more terms of sine once they are spent: after one pair
+** at small angles, which are most of what an enclosure tests near M = 0. The
+** plain C version makes every term, so that the two rows with such inputs
+** show what stopping gains.
 */
 #define _POSIX_C_SOURCE 200809L
 #include <stdio.h>
@@ -51,21 +56,24 @@ static const struct doubles *given;
         return sum;                                                         \
     }
 
-#define SINE(P) {                                                           \
-        struct stripeawn_bounds r = P##_sine(angles[i], DEPTH);             \
+#define SINE_OF(P, X) {                                                     \
+        struct stripeawn_bounds r = P##_sine(X, DEPTH);                     \
         sum += (uint64_t)r.lo * 3 + (uint64_t)r.hi; }
+#define SINE(P) SINE_OF(P, angles[i])
+#define SINE_SMALL(P) SINE_OF(P, small_angles[i])
 #define LOWER(P)                                                            \
         sum += P##_lower_end(angles[i], anomalies[i], eccentricities[i],    \
                              DEPTH).accepted;
 #define UPPER(P)                                                            \
         sum += P##_upper_end(angles[i], anomalies[i], eccentricities[i],    \
                              DEPTH).accepted;
-#define ENCLOSE_OF(P, M) {                                                  \
-        struct stripeawn_enclosure r =                                      \
-            P##_enclose(M, eccentricities[i], DEPTH);                       \
+#define ENCLOSE_OF(P, M, A) {                                               \
+        struct stripeawn_enclosure r = P##_enclose(M, A, DEPTH);            \
         sum += (uint64_t)r.lower * 3 + (uint64_t)r.upper; }
-#define ENCLOSE(P) ENCLOSE_OF(P, anomalies[i])
-#define ENCLOSE_MIRRORED(P) ENCLOSE_OF(P, -anomalies[i])
+#define ENCLOSE(P) ENCLOSE_OF(P, anomalies[i], eccentricities[i])
+#define ENCLOSE_MIRRORED(P) ENCLOSE_OF(P, -anomalies[i], eccentricities[i])
+#define ENCLOSE_PARABOLIC(P)                                                \
+        ENCLOSE_OF(P, small_anomalies[i], great_eccentricities[i])
 #define PROPOSE(P) {                                                        \
         struct stripeawn_proposal r =                                       \
             P##_propose(anomalies[i], eccentricities[i]);                   \
@@ -94,10 +102,12 @@ static const struct doubles *given;
                                 TOLERANCE, DEPTH).verdict;
 
 BOTH_SIDES(sine, SINE)
+BOTH_SIDES(sine_small, SINE_SMALL)
 BOTH_SIDES(lower, LOWER)
 BOTH_SIDES(upper, UPPER)
 BOTH_SIDES(enclose, ENCLOSE)
 BOTH_SIDES(enclose_mirrored, ENCLOSE_MIRRORED)
+BOTH_SIDES(enclose_parabolic, ENCLOSE_PARABOLIC)
 BOTH_SIDES(propose, PROPOSE)
 BOTH_SIDES(judge, JUDGE)
 BOTH_SIDES(lower_double, LOWER_DOUBLE)
@@ -172,11 +182,15 @@ static void print_heading(const char *left, const char *right)
 static void measure_grid(long rounds)
 {
     measure("sine", library_sine, plain_sine_pass, rounds);
+    measure("sine, X < 2^20", library_sine_small, plain_sine_small_pass,
+            rounds);
     measure("lower_end", library_lower, plain_lower_pass, rounds);
     measure("upper_end", library_upper, plain_upper_pass, rounds);
     measure("enclose", library_enclose, plain_enclose_pass, rounds);
     measure("enclose, M < 0", library_enclose_mirrored,
             plain_enclose_mirrored_pass, rounds);
+    measure("enclose, near-parabolic", library_enclose_parabolic,
+            plain_enclose_parabolic_pass, rounds);
     measure("propose", library_propose, plain_propose_pass, rounds);
     measure("judge", library_judge, plain_judge_pass, rounds);
     measure("judge_claims, a claim", library_batch, plain_batch_pass, rounds);

@@ -11,6 +11,8 @@ uint32_t eccentricities[INPUTS];
 double estimates[INPUTS];
 uint8_t claims[STRIPEAWN_CLAIM_BYTES * INPUTS];
 struct doubles on_grid[INPUTS], off_grid[INPUTS];
+int32_t small_anomalies[INPUTS], small_angles[INPUTS];
+uint32_t great_eccentricities[INPUTS];
 
 /* A fixed sequence of numbers from 0 to the limit (Marsaglia's xorshift). */
 static uint32_t draw(uint32_t limit)
@@ -87,9 +89,21 @@ static void make_double_inputs(void)
     }
 }
 
-/* The doubles are drawn last: the grid's inputs are what they ever were. */
+static void make_small_inputs(void)
+{
+    int i;
+
+    for (i = 0; i < INPUTS; i++) {
+        small_anomalies[i] = (int32_t)draw(15);
+        great_eccentricities[i] = STRIPEAWN_A_MAX - draw(4095);
+        small_angles[i] = (int32_t)draw((1 << 20) - 1);
+    }
+}
+
+/* What was added later is drawn later: the others are what they ever were. */
 void make_inputs(void)
 {
     make_grid_inputs();
     make_double_inputs();
+    make_small_inputs();
 }

@@ -21,10 +21,17 @@ struct doubles {
 
 extern struct doubles on_grid[INPUTS], off_grid[INPUTS];
 
+extern int32_t small_anomalies[INPUTS], small_angles[INPUTS];
+extern uint32_t great_eccentricities[INPUTS];
+
 /*
 ** Any orbit with M not below 0, an angle near its root, and an estimate some
 ** units off it. The doubles on the grid are the same orbits, angles and
 ** estimates once more; those off it are orbits less than a unit away.
+**
+** Then near-parabolic orbits near M = 0, with M below 16 and A within 4096 of
+** 2^28, as in examples/flattered.c; and angles below 2^20, about as great as
+** the roots of these orbits are.
 */
 void make_inputs(void);
 

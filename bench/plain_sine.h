@@ -1,5 +1,9 @@
 /*
 ** plain_sine.h: Lo and Hi, the whole-number bounds of sine, in plain C.
+**
+** Every term up to the depth is made, at every angle. The library stops once
+** its terms are spent, which changes no bound. There must be no such stop
+** here: that is what makes the gain visible in one run.
 */
 #ifndef PLAIN_SINE_H
 #define PLAIN_SINE_H
