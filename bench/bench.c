@@ -189,7 +189,7 @@ static void measure_grid(long rounds)
     measure("enclose", library_enclose, plain_enclose_pass, rounds);
     measure("enclose, M < 0", library_enclose_mirrored,
             plain_enclose_mirrored_pass, rounds);
-    measure("enclose, near-parabolic", library_enclose_parabolic,
+    measure("enclose, M near 0", library_enclose_parabolic,
             plain_enclose_parabolic_pass, rounds);
     measure("propose", library_propose, plain_propose_pass, rounds);
     measure("judge", library_judge, plain_judge_pass, rounds);

@@ -117,8 +117,8 @@ extern "C" {
 /* Version. */
 #define STRIPEAWN_VERSION_MAJOR 0
 #define STRIPEAWN_VERSION_MINOR 4
-#define STRIPEAWN_VERSION_PATCH 0
-#define STRIPEAWN_VERSION "0.4.0"
+#define STRIPEAWN_VERSION_PATCH 1
+#define STRIPEAWN_VERSION "0.4.1"
 
 /* Limits: the greatest value taken. M goes down to -H, and X to -T. */
 #define STRIPEAWN_M_MAX 843314856     /* H, the whole part of pi 2^28      */
@@ -243,6 +243,9 @@ struct stripeawn_batch {
 **    With greater depth lo never falls and hi never rises. At depth 5 they
 **    are at most 32 units apart.
 ** 2) Near T lo is below zero at every depth, and hi at depths 4 and 5.
+** 3) Up to x = 14417715, 128808899, 341821575 and 614482590 the bounds of
+**    depth 1, 2, 3 and 4 are those of every greater depth, and these take no
+**    more time: depth 5 is as fast there.
 */
 struct stripeawn_bounds stripeawn_sine(uint32_t x, uint32_t depth);
 
