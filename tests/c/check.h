@@ -92,6 +92,7 @@ void put_claim(uint8_t *record, int32_t m, uint32_t a, double estimate,
 void test_header(void);
 void test_sine(void);
 void test_ends(void);
+void test_spent(void);
 void test_top(void);
 void test_enclose(void);
 void test_propose(void);

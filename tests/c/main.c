@@ -8,6 +8,7 @@ int main(void)
     test_header();
     test_sine();
     test_ends();
+    test_spent();
     test_top();
     test_enclose();
     test_propose();

@@ -4,13 +4,14 @@ Most are drawn so that a rule is about to turn: an M for which an end test
 just holds or just fails, an estimate whose tolerance just reaches the root.
 They are drawn for M from 0 up, and half of them are then mirrored. A few have
 an input outside its limit, or one whose sign opposes that of M. Problems are
-drawn by draw_grid or by draw_doubles: that is the family of a case.
+drawn by draw_grid, draw_doubles or draw_spent: that is the family of a case.
 """
 from functools import partial
 
 import doubles
 import draw_doubles
 import draw_grid
+import draw_spent
 import draws
 import records
 import wire
@@ -43,8 +44,8 @@ def orbit(rng, family):
     return given.mirror() if is_mirrored(rng, given) else given
 
 
-def sine_case(rng):
-    return wire.sine(draws.spoil(rng, draws.angle(rng), T),
+def sine_case(rng, angle=draws.angle):
+    return wire.sine(draws.spoil(rng, angle(rng), T),
                      draws.spoil_depth(rng, draws.depth(rng)))
 
 
@@ -135,4 +136,8 @@ KINDS = {
     "double verdicts": (DOUBLE_VERDICT, 50_000, 10_000),
     "double enclosures": (DOUBLE_ENCLOSURE, 8_000, 1_000),
     "double proposals": (DOUBLE_PROPOSAL, 8_000, 1_000),
+    "spent sine": (partial(sine_case, angle=draw_spent.angle), 20_000, 10_000),
+    "spent ends": (partial(end_case, family=draw_spent), 20_000, 10_000),
+    "spent enclosures": (partial(enclosure_case, family=draw_spent), 1_000,
+                         500),
 }

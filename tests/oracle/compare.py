@@ -5,8 +5,8 @@
 SEED is a whole number, or 'time' for one from the clock. DRIVER is the
 command that runs driver.c linked with the library. Any difference is printed
 with its case, and the exit status is then 1. So it is where too few of the
-random cases or of the exact facts had a negative M, or too few pairs of M and
-e as doubles were drawn for either.
+random cases or of the exact facts had a negative M, too few pairs of M and e
+as doubles were drawn for either, or too few facts were of spent terms.
 """
 import random
 import sys
@@ -22,6 +22,7 @@ import facts
 import records
 import rules
 import stated
+import stated_spent
 import wire
 from given import Doubles
 
@@ -31,6 +32,8 @@ SHOWN = 20
 # a negative M; and different pairs of doubles, in the cases and the facts.
 NEGATIVE_LEAST = 100_000
 PAIRS_LEAST = 100_000
+# Exact facts of spent terms that each run has to have.
+SPENT_LEAST = 20_000
 
 RULES = {
     wire.SINE: lambda c: rules.sine(c.x, c.depth),
@@ -99,15 +102,20 @@ def compare_stated(driver):
         faults += differences(call, answer, got)
         if RULES[call.entry](call) != answer:
             faults.append(f"the rules of this folder miss {answer} at {call}")
-    return Found(Counter(numbers=len(calls)), faults=faults)
+    faults += [f"the rules of this folder do not spend the terms at X={x} "
+               f"with {pairs} pairs" for x, pairs in stated_spent.PAIRS
+               if rules.spending_pairs(x) != pairs]
+    return Found(Counter(numbers=len(calls) + len(stated_spent.PAIRS)),
+                 faults=faults)
 
 
-def check_facts(driver, check, rng, count):
+def check_facts(driver, kind, rng, count):
     """How many facts were looked at, and those that do not hold."""
     found, with_root = Found(), []
+    check = facts.KINDS[kind][0]
     for given, true, sentence, *root in check(partial(wire.ask, driver), rng,
                                               count):
-        found.counts["facts"] += 1
+        found.counts[kind] += 1
         found.negative += given is not None and given.negative
         with_root += [given] if root else []
         if not true:
@@ -127,7 +135,7 @@ def work(piece):
     if group == "edge":
         return group, compare(driver, edges.KINDS[kind]())
     if group == "exact":
-        return group, check_facts(driver, facts.KINDS[kind][0], rng, count)
+        return group, check_facts(driver, kind, rng, count)
     draw = cases.KINDS[kind][0]
     return group, compare(driver, [draw(rng) for _ in range(count)])
 
@@ -142,14 +150,19 @@ def pieces(driver, seed):
                 yield driver, seed, group, kind, number, each
 
 
+def spent_facts(totals):
+    """How many of the exact facts were of spent terms."""
+    return sum(totals["exact"].counts[kind] for kind in facts.SPENT_KINDS)
+
+
 def too_few(totals):
     """A sentence for each group that had too few of a kind."""
+    wanted = [(group, *rest) for group in ("random", "exact") for rest in (
+        (totals[group].negative, NEGATIVE_LEAST, "negative M"),
+        (len(totals[group].pairs), PAIRS_LEAST, "doubles"))]
+    wanted.append(("exact", spent_facts(totals), SPENT_LEAST, "spent terms"))
     return [f"too few {group} checks with {what}: {count:,}"
-            for group in ("random", "exact")
-            for count, least, what in (
-                (totals[group].negative, NEGATIVE_LEAST, "negative M"),
-                (len(totals[group].pairs), PAIRS_LEAST, "doubles"))
-            if count < least]
+            for group, count, least, what in wanted if count < least]
 
 
 def report(totals, faults, seconds):
@@ -164,6 +177,7 @@ def report(totals, faults, seconds):
     print(f"compare: different pairs of doubles: {len(random_found.pairs):,} "
           f"in random cases, {len(edge.pairs):,} in edge cases and "
           f"{len(exact.pairs):,} held against the true root in exact facts")
+    print(f"compare: with spent terms: {spent_facts(totals):,} exact facts")
     for sentence in faults[:SHOWN]:
         print(f"compare: DIFFERENT: {sentence}")
     if len(faults) > SHOWN:

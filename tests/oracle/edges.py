@@ -2,12 +2,14 @@
 double, batches whole, damaged and truncated.
 
 What is given is of the grid or doubles, and the cases beside it are alike.
+Those where sine's terms are spent are in spent.py.
 """
 from functools import partial
 from itertools import product
 
 import doubles
 import records
+import spent
 import wire
 from draws import GREATEST, LEAST
 from given import Doubles, Grid
@@ -158,4 +160,7 @@ KINDS = {
     "double proposals": partial(proposals, off_grid),
     "double verdicts": partial(verdicts, off_grid, (0, 65_535, 65_536), (5,)),
     "double near parabolic": partial(near_parabolic, near_parabolic_doubles),
+    "spent sine": spent.sine_edges,
+    "spent ends": spent.end_edges,
+    "spent enclosures": spent.enclosure_edges,
 }

@@ -6,6 +6,7 @@ import demands
 import draw_doubles
 import draw_grid
 import mirrors
+import spent
 
 
 def of(family, check):
@@ -15,6 +16,9 @@ def of(family, check):
 def round_of(kinds):
     return partial(mirrors.mirrors, kinds=kinds)
 
+
+# The kinds that are of spent terms, R61.
+SPENT_KINDS = ("spent sines", "spent ends")
 
 # What checks each kind, how many cases a run has, how many make one piece of
 # work.
@@ -37,4 +41,6 @@ KINDS = {
     "grid points": (corners.grid_points, 10_000, 2_000),
     "corners' ends": (corners.ends, 10_000, 2_000),
     "corners' enclosures": (corners.enclosures, 4_000, 1_000),
+    "spent sines": (spent.sines, 5_000, 2_500),
+    "spent ends": (spent.ends, 5_000, 2_500),
 }

@@ -9,3 +9,5 @@ T = 843_314_920
 # R3: every depth, and the greatest N
 DEPTHS = (1, 2, 3, 4, 5)
 TOLERANCE = 65_535
+# R61: the greatest angles at which 1, 2, 3 and 4 pairs spend the terms
+SPENT = (14_417_715, 128_808_899, 341_821_575, 614_482_590)

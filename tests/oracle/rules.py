@@ -10,7 +10,7 @@ from math import floor
 
 from cells import (angle_code, depth_code, floor_and_ceiling, mirror,
                    mirror_double, pose, up)
-from limits import T, TOLERANCE, UNIT
+from limits import DEPTHS, T, TOLERANCE, UNIT
 
 # R45
 CONFIRMED, REFUTED, UNDECIDED = 16, 17, 18
@@ -46,6 +46,13 @@ def bounds(x, depth):
     tried = range(1, depth + 1)
     return (max(raw_low(lows, ups, d) for d in tried),
             min(raw_high(lows, ups, d) for d in tried))
+
+
+def spending_pairs(x):
+    """R61: after how many pairs the terms are spent. No rule here stops for
+    it."""
+    lows, ups = terms(x, 2 * DEPTHS[-1])
+    return next(n for n in DEPTHS if lows[2 * n] == 0 and ups[2 * n] <= 1)
 
 
 def sine(x, depth):

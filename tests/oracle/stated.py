@@ -6,6 +6,7 @@ of the grid also of the same numbers as doubles.
 """
 import doubles
 import stated_doubles
+import stated_spent
 import wire
 from draws import GREATEST, LEAST
 from edges import SIGNS
@@ -136,4 +137,5 @@ def stated():
                (NEGATIVE_BATCH, (0, 6, b"\x10\x04\x10\x01\x01\x11\xEE",
                                  NEGATIVE_BATCH.claims))]
     grid = ends() + enclosures() + circles() + verdicts()
-    return sines + batches + grid + as_doubles(grid) + stated_doubles.stated()
+    return (sines + stated_spent.sines() + batches + grid + as_doubles(grid)
+            + stated_doubles.stated())
