@@ -1,5 +1,6 @@
 -- The best bounds never get worse as the depth grows: Lo never falls, Hi never rises. Assumes nothing.
-use Prim.Native.Nat.{ℕ, suc, _≤_}
+use Prim.Native.Nat.{ℕ, zero, suc, _≤_}
+use native.Mathlib.Omega.{arith}
 use native.Mathlib.Decide.{le-ind}
 use lib.Signed.{_≤ℤ_, ≤ℤ-refl}
 use Rattle.whole.proofs.Order.{≤ℤ-trans, le-greater-left, le-greater-right, lesser-le-left, lesser-le-right}
@@ -21,13 +22,15 @@ module _ (s : Series) (X : ℕ) where
       (λ e k i. ≤ℤ-trans (lesser-le-left (leastHigh s X e) (rawHigh s X (suc e))) i) e h
 
   -- the best is no worse than its own depth's raw bound
-  pub raw-le-greatest : (d : ℕ) → rawLow s X (suc d) ≤ℤ greatestLow s X (suc d)
+  pub raw-le-greatest : (d : ℕ) → 1 ≤ d → rawLow s X d ≤ℤ greatestLow s X d
   unfolding greatestLow
-  raw-le-greatest d = le-greater-right (greatestLow s X d) (rawLow s X (suc d))
+  raw-le-greatest zero h = absurd (let k : ⊥ = omega arith in k)
+  raw-le-greatest (suc d) h = le-greater-right (greatestLow s X d) (rawLow s X (suc d))
 
-  pub least-le-raw : (d : ℕ) → leastHigh s X (suc d) ≤ℤ rawHigh s X (suc d)
+  pub least-le-raw : (d : ℕ) → 1 ≤ d → leastHigh s X d ≤ℤ rawHigh s X d
   unfolding leastHigh
-  least-le-raw d = lesser-le-right (leastHigh s X d) (rawHigh s X (suc d))
+  least-le-raw zero h = absurd (let k : ⊥ = omega arith in k)
+  least-le-raw (suc d) h = lesser-le-right (leastHigh s X d) (rawHigh s X (suc d))
 
 pub Lo-rises : (X d e : ℕ) → d ≤ e → Lo X d ≤ℤ Lo X e
 Lo-rises X = greatest-rises sine X

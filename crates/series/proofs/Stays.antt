@@ -19,15 +19,6 @@ use Rattle.series.proofs.TermLimits.{l-mono, u-mono}
 use Rattle.series.proofs.SineTerms.{sine-divides}
 use Rattle.series.proofs.Deeper.{greatest-rises, least-falls, raw-le-greatest, least-le-raw}
 
--- the best is no worse than its own depth's raw bound
-low-own : (s : Series) (X n : ℕ) → 1 ≤ n → rawLow s X n ≤ℤ greatestLow s X n
-low-own s X zero h = absurd (let k : ⊥ = omega arith in k)
-low-own s X (suc n) h = raw-le-greatest s X n
-
-high-own : (s : Series) (X n : ℕ) → 1 ≤ n → leastHigh s X n ≤ℤ rawHigh s X n
-high-own s X zero h = absurd (let k : ⊥ = omega arith in k)
-high-own s X (suc n) h = least-le-raw s X n
-
 -- a lower term of 0 alone does it: every later one is 0 too
 module _ (s : Series) (X n : ℕ) (none : l s X (2 * n) ≡ 0) where
   none-later : (k : ℕ) → 2 * n ≤ k → l s X k ≡ 0
@@ -63,7 +54,7 @@ module _ (s : Series) (X n : ℕ) (none : l s X (2 * n) ≡ 0) where
       (le-ind (λ (e : ℕ). greatestLow s X e ≤ℤ greatestLow s X n) (≤ℤ-refl (greatestLow s X n))
       (λ e k i.
       of-greater (λ (z : ℤ). z ≤ℤ greatestLow s X n) (greatestLow s X e) (rawLow s X (suc e)) i
-      (≤ℤ-trans (raw-low-falls (suc e) (omega arith)) (low-own s X n some))) d h)
+      (≤ℤ-trans (raw-low-falls (suc e) (omega arith)) (raw-le-greatest s X n some))) d h)
       (greatest-rises s X n d h)
 
   least-stays : 1 ≤ n → (d : ℕ) → n ≤ d → leastHigh s X d ≡ leastHigh s X n
@@ -73,7 +64,7 @@ module _ (s : Series) (X n : ℕ) (none : l s X (2 * n) ≡ 0) where
       (le-ind (λ (e : ℕ). leastHigh s X n ≤ℤ leastHigh s X e) (≤ℤ-refl (leastHigh s X n))
       (λ e k i.
       of-lesser (λ (z : ℤ). leastHigh s X n ≤ℤ z) (leastHigh s X e) (rawHigh s X (suc e)) i
-      (≤ℤ-trans (high-own s X n some) (raw-high-rises (suc e) (omega arith)))) d h)
+      (≤ℤ-trans (least-le-raw s X n some) (raw-high-rises (suc e) (omega arith)))) d h)
 
 -- of spent terms
 module _ {s : Series} {X n : ℕ} (h : Spent s X n) (some : 1 ≤ n) where

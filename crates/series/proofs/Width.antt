@@ -62,8 +62,8 @@ unfolding rawLow rawHigh evens
 width s X g d near =
     let best = own (greatestLow s X (suc d)) in
     let least = own (leastHigh s X (suc d)) in
-    let low = le-parts (is-sub (evens (l s X) (suc d)) (odds (u s X) (suc d))) best .0 (raw-le-greatest s X d) in
-    let high = le-parts least (is-sub (evens (u s X) (suc (suc d))) (odds (l s X) (suc d))) .0 (least-le-raw s X d) in
+    let low = le-parts (is-sub (evens (l s X) (suc d)) (odds (u s X) (suc d))) best .0 (raw-le-greatest s X (suc d) (omega arith)) in
+    let high = le-parts least (is-sub (evens (u s X) (suc (suc d))) (odds (l s X) (suc d))) .0 (least-le-raw s X (suc d) (omega arith)) in
     le-parts least (is-add best (is-pos (2 * suc d * g + u s X (2 * suc d)))) .1
     (omega (arith, evens-gap (u s X) (l s X) g near (suc d), odds-gap (u s X) (l s X) g near (suc d)))
 
