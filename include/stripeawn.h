@@ -116,9 +116,9 @@ extern "C" {
 
 /* Version. */
 #define STRIPEAWN_VERSION_MAJOR 0
-#define STRIPEAWN_VERSION_MINOR 4
-#define STRIPEAWN_VERSION_PATCH 1
-#define STRIPEAWN_VERSION "0.4.1"
+#define STRIPEAWN_VERSION_MINOR 5
+#define STRIPEAWN_VERSION_PATCH 0
+#define STRIPEAWN_VERSION "0.5.0"
 
 /* Limits: the greatest value taken. M goes down to -H, and X to -T. */
 #define STRIPEAWN_M_MAX 843314856     /* H, the whole part of pi 2^28      */
@@ -218,6 +218,12 @@ struct stripeawn_proposal {
 struct stripeawn_verdict {
     uint32_t code;
     uint32_t verdict;                 /* 16, 17 or 18                      */
+};
+
+struct stripeawn_settled {
+    uint32_t code;
+    uint32_t verdict;                 /* 16, 17 or 18                      */
+    uint32_t depth;                   /* least that gives it, 1 to 5       */
 };
 
 struct stripeawn_batch {
@@ -395,7 +401,9 @@ struct stripeawn_proposal stripeawn_propose(int32_t m, uint32_t a);
 ** 2) No verdict speaks of the residual E - e sin E - M, which may be small
 **    far from the root, nor of how well M and e describe an orbit.
 ** 3) A claim Confirmed or Refuted at one depth has the same verdict at every
-**    greater depth.
+**    greater depth. stripeawn_settle_double, or on the grid stripeawn_settle,
+**    takes no depth and gives the verdict of depth 5 with the least depth
+**    that suffices.
 ** 4) A wider tolerance may lose a verdict: M = 0, e = 1, estimate 0 is
 **    Confirmed at n = 0 and Undecided at n = 1. The verdict at n = 0 is
 **    still true, and so the root is within 1 unit too.
@@ -417,6 +425,44 @@ struct stripeawn_verdict stripeawn_judge_double(double m, double e,
 struct stripeawn_verdict stripeawn_judge(int32_t m, uint32_t a,
                                          double estimate, uint32_t n,
                                          uint32_t depth);
+
+/*
+** stripeawn_settle_double: the verdict, and the least depth that gives it.
+** stripeawn_settle: the same on the grid.
+**
+** Given:
+**    m          M, as a double in radians, of size H / 2^28 at most; on the
+**               grid in units, -H to H
+**    e          eccentricity as a double, 0 to 1; either zero counts as 0
+**    a          on the grid in place of e: A, 0 to 2^28
+**    estimate   angle in radians, 0 to T / 2^28; where m is below 0,
+**               -T / 2^28 to 0; either zero counts as 0
+**    n          tolerance, units, 0 to 65535
+** Returned:
+**    verdict    16 Confirmed, 17 Refuted, 18 Undecided
+**    depth      the first of the depths 1, 2, 3, 4 and 5 at which the judge
+**               confirms or refutes; 5 where none does
+** Status:
+**    1 = size of M above H units; as a double, also NaN or infinite
+**    2 = e NaN, infinite, below 0 or above 1; on the grid A above 2^28
+**    4 = estimate NaN, infinite, opposing M, or of size above T units
+**    5 = n above 65535
+**    0 = done
+** Notes:
+** 1) The verdict is the one that stripeawn_judge_double, or on the grid
+**    stripeawn_judge, gives at depth 5, and what that one's notes say of it
+**    holds here too. At every depth from the one returned on the judge gives
+**    this verdict, and at every lesser one Undecided.
+** 2) It takes the time of the judge at depth 5, which goes no deeper than it
+**    must; so there is no need to try depths by hand.
+** 3) A depth of 5 alone doesn't say that the claim is decided, as depth 5
+**    may be the one that decides it: look at the verdict.
+*/
+struct stripeawn_settled stripeawn_settle_double(double m, double e,
+                                                 double estimate, uint32_t n);
+
+struct stripeawn_settled stripeawn_settle(int32_t m, uint32_t a,
+                                          double estimate, uint32_t n);
 
 /*
 ** stripeawn_judge_claims: judges every record of a claims file.

@@ -96,11 +96,11 @@ fn at_depth(least: Corner, most: Corner, w: Walk, upper: bool) -> AtDepth
     }
 }
 
-// The end test of one M and a span of A, settled at the first depth that settles it. Where the terms are spent (R61), what isn't
-// accepted is accepted at no greater depth.
-fn settle(m: u64, a: Span, depth: Depth, x: Angle, upper: bool) -> bool
+// The least depth up to the one asked for that accepts an end, by one M and a span of A, and 0 where none does: the walk stops at
+// the first depth that settles it. Where the terms are spent (R61), what isn't accepted is accepted at no greater depth.
+fn settle(m: u64, a: Span, depth: Depth, x: Angle, upper: bool) -> u64
     requires { ⌜ Settling m a depth x ⌝ }
-    ensures { λ r. ⌜ r ≡ endAt upper (oneMean m a) (depth .pairs) (x .units) ⌝ }
+    ensures { λ r. ⌜ r ≡ leastDepth (λ d. endAt upper (oneMean m a) d (x .units)) (depth .pairs) ⌝ }
 {
     let pairs = depth.pairs as u64;
     let angle = x.units;
@@ -111,18 +111,18 @@ fn settle(m: u64, a: Span, depth: Depth, x: Angle, upper: bool) -> bool
         w = series::further(w);
         let now = at_depth(least, most, w, upper);
         if now.settles {
-            return now.accepts;
+            return if now.accepts { w.pairs } else { 0 };
         }
         if w.pairs == pairs || series::spent(w) {
-            return false;
+            return 0;
         }
     }
 }
 
-// The end test of a problem, of an upper end or of a lower one: by the greatest M, or the least.
-fn accepted(p: Problem, x: Angle, upper: bool) -> bool
+// The least depth that accepts an end of a problem, upper or lower: by the greatest M, or the least.
+pub fn accepted_from(p: Problem, x: Angle, upper: bool) -> u64
     requires { ⌜ Asked p x ⌝ }
-    ensures { λ r. ⌜ r ≡ endAt upper (p .cell) (p .depth .pairs) (x .units) ⌝ }
+    ensures { λ r. ⌜ r ≡ leastDepth (λ d. endAt upper (p .cell) d (x .units)) (p .depth .pairs) ⌝ }
 {
     let cell = p.cell;
     let m = cell.m;
@@ -133,6 +133,14 @@ fn accepted(p: Problem, x: Angle, upper: bool) -> bool
     } else {
         settle(m.down, a, depth, x, false)
     }
+}
+
+// The end test of a problem, of an upper end or of a lower one.
+fn accepted(p: Problem, x: Angle, upper: bool) -> bool
+    requires { ⌜ Asked p x ⌝ }
+    ensures { λ r. ⌜ r ≡ endAt upper (p .cell) (p .depth .pairs) (x .units) ⌝ }
+{
+    accepted_from(p, x, upper) != 0
 }
 
 // Whether x is an accepted lower end.

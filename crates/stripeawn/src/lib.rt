@@ -7,12 +7,14 @@ ghost use Rattle.enclosure.specs.Enclosure.{enclosureRule};
 ghost use lib.ListN.{length};
 ghost use Rattle.proposal.specs.Propose.{proposalRule};
 ghost use Rattle.judge.specs.Judge.{judgeRule};
+ghost use Rattle.judge.specs.Settle.{settleRule};
 ghost use Rattle.claims.specs.Form.{twenty};
 ghost use Rattle.claims.specs.Batch.{batchRule, answersAfter};
 use claims::Batch;
 use enclosure::Enclosure;
 use ends::End;
 use judge::Judged;
+use judge::Settled;
 use proposal::Proposal;
 use series::SineBounds;
 
@@ -97,6 +99,20 @@ pub extern "C" fn stripeawn_judge_double(
     ensures { λ r. ⌜ r ≡ judgeRule (record { given = doubles m e; estimate = estimate; n = n; depth = depth }) ⌝ }
 {
     judge::judge_double(m, e, estimate, n, depth)
+}
+
+#[no_mangle]
+pub extern "C" fn stripeawn_settle(m: i32, a: u32, estimate: f64, n: u32) -> Settled
+    ensures { λ r. ⌜ r ≡ settleRule (grid m a) estimate n ⌝ }
+{
+    judge::settle(m, a, estimate, n)
+}
+
+#[no_mangle]
+pub extern "C" fn stripeawn_settle_double(m: f64, e: f64, estimate: f64, n: u32) -> Settled
+    ensures { λ r. ⌜ r ≡ settleRule (doubles m e) estimate n ⌝ }
+{
+    judge::settle_double(m, e, estimate, n)
 }
 
 #[no_mangle]
