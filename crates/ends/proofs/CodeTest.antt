@@ -3,10 +3,10 @@
 use mathlib.Core.Path.{_≡_, refl, ap, ap₂, subst, sym, _∙_}
 use mathlib.Core.Bool.{Bool, true, false, not, cond, _&&_}
 use mathlib.Core.Logic.{_↔_}
-use Prim.Native.Nat.{ℕ, suc, _+_, _*_, _≤_}
+use Prim.Native.Nat.{ℕ, zero, suc, _+_, _*_, _≤_}
 use native.Mathlib.Omega.{arith}
 use native.Mathlib.Nat.{mul-le-mul-left}
-use lib.Dec.{T}
+use lib.Dec.{T, not-T}
 use lib.IntN.{ℤ}
 use Rattle.whole.proofs.Bools.{alike, by-meaning, passed, passes, fails, both, both-parts}
 use Rattle.grid.specs.Grid.{one, H-units, T-units, depths}
@@ -26,6 +26,8 @@ use Rattle.ends.specs.declared.AtDepth.{AtDepth}
 use Rattle.ends.specs.declared.Corner.{Corner}
 use Rattle.ends.specs.Corner.{oneMean, cornerOf, testBy, ownBound, atDepth, WalkIn}
 use Rattle.ends.proofs.InNaturals.{below-test, above-test}
+use Rattle.ends.specs.Least.{leastDepth}
+use Rattle.ends.proofs.Least.{found}
 use Rattle.ends.proofs.Corners.{NoWorse, below-corners, above-corners, better, deeper, spent-alike}
 
 -- the grid's test of an upper end, or of a lower one
@@ -105,7 +107,7 @@ module _ (upper : Bool) (least most : Corner) (w : Walk) where
   now-settled : (r : Bool) → now .settles ≡ true → (true ≡ now .accepts → true ≡ r) → (otherPasses ≡ false → false ≡ r) → now .accepts ≡ r
   now-settled r = settled leastPasses mostPasses otherPasses r
 
-  now-unsettled : now .settles ≡ false → now .accepts ≡ false
+  pub now-unsettled : now .settles ≡ false → now .accepts ≡ false
   now-unsettled = unsettled leastPasses mostPasses otherPasses
 
 module _ (X : ℕ) (x : X ≤ T-units) (w : Walk) (n : ℕ) (at : w ≡ walk sine X (suc n)) (few : suc n ≤ depths) where
@@ -159,6 +161,19 @@ module _ (X : ℕ) (x : X ≤ T-units) (w : Walk) (n : ℕ) (at : w ≡ walk sin
         (λ t. passes (endAt upper c d X) (deeper upper c X k (passed (endAt upper c (suc n) X) (t ∙ own-test upper))))
         (λ f. other-test upper f d j)
 
+    -- the first depth that accepts is the least, which every greater depth reports
+    pub reports : (upper : Bool) → atDepth upper least most w .settles ≡ true → atDepth upper least most w .accepts ≡ true
+        → ((l : ℕ) → 1 ≤ l → l ≤ n → T (not (endAt upper (oneMean m a) l X)))
+        → (d : ℕ) → suc n ≤ d → d ≤ depths → leastDepth (λ l. endAt upper (oneMean m a) l X) d ≡ suc n
+    reports upper e t before d k j =
+        found (λ l. endAt upper (oneMean m a) l X) d (suc n) (record {
+          some = omega arith;
+          few = k;
+          here = passed (endAt upper (oneMean m a) (suc n) X) (sym t ∙ own-test upper);
+          last = passed (endAt upper (oneMean m a) d X) (sym t ∙ settles-on upper e d k j);
+          before = λ l s f. before l s (omega arith);
+        })
+
     -- what doesn't settle doesn't accept
     pub goes-on : (upper : Bool) → atDepth upper least most w .settles ≡ false → false ≡ endAt upper (oneMean m a) (suc n) X
     goes-on upper e = sym (now-unsettled upper least most w e) ∙ own-test upper
@@ -168,3 +183,12 @@ module _ (X : ℕ) (x : X ≤ T-units) (w : Walk) (n : ℕ) (at : w ≡ walk sin
         → (d : ℕ) → suc n ≤ d → false ≡ endAt upper (oneMean m a) d X
     stops-on upper e t d k =
         goes-on upper e ∙ sym (spent-alike upper (oneMean m a) X (spent-walk sine w X (suc n) at t) (omega arith) d k)
+
+-- where the walk's last depth didn't accept, no depth up to it does
+pub none-before : (X : ℕ) → X ≤ T-units → (n : ℕ) → n ≤ depths → (v : Walk) → v ≡ walk sine X n → (m : ℕ) (a : Span) (upper : Bool)
+    → (1 ≤ n → atDepth upper (cornerOf (orbitAt m (a .down)) X) (cornerOf (orbitAt m (a .up)) X) v .accepts ≡ false)
+    → (l : ℕ) → 1 ≤ l → l ≤ n → T (not (endAt upper (oneMean m a) l X))
+none-before X x zero few v at m a upper h l s f = absurd (let z : ⊥ = omega arith in z)
+none-before X x (suc n) few v at m a upper h l s f =
+    not-T (endAt upper (oneMean m a) l X)
+    (λ t. subst T (sym (own-test X x v n at few m a upper) ∙ h (omega arith)) (deeper upper (oneMean m a) X f t))

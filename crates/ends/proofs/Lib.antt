@@ -7,4 +7,5 @@ pub mod Mirror
 pub mod Apart
 pub mod Known
 pub mod Answered
+pub mod Least
 pub mod CodeTest

@@ -2,3 +2,4 @@ pub mod Ends
 pub mod Exact
 pub mod Entry
 pub mod Corner
+pub mod Least

@@ -5,6 +5,7 @@ ghost use Rattle.orbit.specs.Cell.{orbitAt};
 ghost use Rattle.orbit.specs.Given.{grid, doubles};
 ghost use Rattle.orbit.specs.Posed.{ByProblem, PosedIn};
 ghost use Rattle.ends.specs.Ends.{endAt, lowerEnd, upperEnd};
+ghost use Rattle.ends.specs.Least.{leastDepth};
 ghost use Rattle.ends.specs.Entry.{endRule, lowerRule, upperRule, flagged};
 ghost use Rattle.ends.specs.Corner.{Asked, Settling, CornerIn, BoundIn, WalkIn, oneMean, cornerOf, testBy, atDepth};
 use grid::Angle;
@@ -111,7 +112,10 @@ fn settle(m: u64, a: Span, depth: Depth, x: Angle, upper: bool) -> u64
         w = series::further(w);
         let now = at_depth(least, most, w, upper);
         if now.settles {
-            return if now.accepts { w.pairs } else { 0 };
+            if now.accepts {
+                return w.pairs;
+            }
+            return 0;
         }
         if w.pairs == pairs || series::spent(w) {
             return 0;

@@ -1,7 +1,8 @@
 -- The certificate of an angle E, R38.
-use Prim.Native.Nat.{ℕ, zero, suc, _+_, _-_, _^_, _<_, min}
-use mathlib.Core.Bool.{Bool, not, cond, _&&_}
+use Prim.Native.Nat.{ℕ, _+_, _-_, _^_, _<_, min}
+use mathlib.Core.Bool.{Bool, not, _&&_}
 use lib.Dec.{T}
+use Rattle.whole.specs.First.{firstFrom}
 use Rattle.grid.specs.Grid.{T-units, depths}
 use Rattle.ends.specs.Ends.{lowerEnd, upperEnd}
 use Rattle.orbit.specs.declared.Cell.{Cell}
@@ -17,11 +18,6 @@ highAt E j = min (E + 2 ^ j) T-units
 -- R38: whether both ends are accepted at depth 5
 unfoldable pub certifies : Cell → ℕ → ℕ → Bool
 certifies c E j = lowerEnd c depths (lowAt E j) && upperEnd c depths (highAt E j)
-
--- R38: the first of the n numbers from i on that passes a test, and i + n where none does
-unfoldable pub firstFrom : (ℕ → Bool) → ℕ → ℕ → ℕ
-firstFrom test i zero = i
-firstFrom test i (suc n) = cond (test i) i (firstFrom test (suc i) n)
 
 -- R38: how many j there are, from 0 on
 abbrev pub widths : ℕ

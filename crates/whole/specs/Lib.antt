@@ -1,4 +1,5 @@
 pub mod Round
 pub mod Choose
+pub mod First
 pub mod Sign
 pub mod Room

@@ -1,10 +1,12 @@
--- `ends::settle` meets its contract: the walk goes on until a depth accepts, rules every depth out, is the one asked for, or has
--- spent terms. Assumes nothing.
+-- `ends::settle` meets its contract: the walk goes on until a depth accepts, which is then the least, rules every depth out, is the
+-- one asked for, or has spent terms. Assumes nothing.
 use mathlib.Core.Path.{_≡_, sym, ap, ap₂, _∙_}
+use mathlib.Core.Bool.{Bool, true, false, not}
 use mathlib.Core.Logic.{inl, inr}
 use Prim.Native.Nat.{ℕ, suc, _-_, _≤_, _<_}
 use native.Mathlib.Omega.{arith}
 use borrow.Author.Needs.{needs}
+use lib.Dec.{T}
 use Rattle.grid.specs.Grid.{depths}
 use Rattle.series.specs.Sine.{sine}
 use Rattle.series.specs.Walk.{walk}
@@ -15,48 +17,66 @@ use Rattle.ends.specs.Ends.{endAt}
 use Rattle.ends.specs.Corner.{oneMean, cornerOf, atDepth, WalkIn}
 use Rattle.ends.specs.declared.Corner.{Corner}
 use Rattle.ends.specs.declared.AtDepth.{AtDepth}
-use Rattle.ends.proofs.CodeTest.{walk-in, settles-on, goes-on, stops-on}
+use Rattle.ends.proofs.Least.{none}
+use Rattle.ends.proofs.CodeTest.{now-unsettled, walk-in, settles-on, reports, goes-on, stops-on, none-before}
 use Rattle.ends.proofs.settle.Statement.{statement}
 use Rattle.ends.proofs.settle.Tie as tie
 
 abbrev Inv-loop : tie.InvT-loop
-Inv-loop m upper pairs angle least most w₀ w = (w ≡ walk sine angle (w .pairs)) × (w .pairs < pairs)
+Inv-loop m upper pairs angle least most w₀ w =
+    (w ≡ walk sine angle (w .pairs)) × (w .pairs < pairs) × (1 ≤ w .pairs → atDepth upper least most w .accepts ≡ false)
 
 abbrev μ-loop : tie.MeasureT-loop
 μ-loop m upper pairs angle least most w₀ w = pairs - w .pairs
 
+abbrev start : tie.After-further Inv-loop μ-loop → tie.Start Inv-loop μ-loop
+start c = c .before .before .before .before .before .before
+
 -- after a turn's step the walk has come one pair further
-next : (c : tie.After-further Inv-loop μ-loop)
-    → c .further .result ≡ walk sine (c .before .before .before .before .before .before .args .x .units) (suc (c .before .loop .w .pairs))
+next : (c : tie.After-further Inv-loop μ-loop) → c .further .result ≡ walk sine (start c .args .x .units) (suc (c .before .loop .w .pairs))
 next c = onward _ _ _ (c .before .loop .inv .0) _ (c .further .ensures)
 
 pairs-is : (c : tie.After-further Inv-loop μ-loop) → c .further .result .pairs ≡ suc (c .before .loop .w .pairs)
 pairs-is c = ap (λ (t : Walk). t .pairs) (next c)
 
 few : (c : tie.After-further Inv-loop μ-loop) → suc (c .before .loop .w .pairs) ≤ depths
-few c = omega (arith, c .before .loop .inv .1, c .before .before .before .before .before .before .pre .depth .few)
+few c = omega (arith, c .before .loop .inv .1, start c .pre .depth .few)
 
 -- the tests of both corners may be made
 corners-in : (c : tie.After-further Inv-loop μ-loop)
     → WalkIn (c .before .before .before .before .corner-at .result) (c .further .result) × WalkIn (c .before .before .before .corner-at2 .result) (c .further .result)
 corners-in c =
-    let s = c .before .before .before .before .before .before in
+    let s = start c in
     let p = s .pre in
     let l = p .cell .shapes in
     let h = p .cell .shape in
     let may = walk-in (s .args .x .units) (p .angle .top) (c .further .result) _ (next c) (few c) (s .args .m) in
     (rw (c .before .before .before .before .corner-at .ensures) (may _ (p .cell .mean) (omega arith)), rw (c .before .before .before .corner-at2 .ensures) (may _ (p .cell .mean) h))
 
--- what a depth says of the corners
+-- what a walk says of the corners
+at-corners : (c : tie.After-further Inv-loop μ-loop) (w : Walk)
+    → let g = start c .args in
+    atDepth (g .upper) (c .before .before .before .before .corner-at .result) (c .before .before .before .corner-at2 .result) w
+    ≡ atDepth (g .upper) (cornerOf (orbitAt (g .m) (g .a .down)) (g .x .units)) (cornerOf (orbitAt (g .m) (g .a .up)) (g .x .units)) w
+at-corners c w =
+    ap₂ (λ (p q : Corner). atDepth (start c .args .upper) p q w) (c .before .before .before .before .corner-at .ensures) (c .before .before .before .corner-at2 .ensures)
+
 corners-say : (c : tie.After-at-depth Inv-loop μ-loop)
-    → let f = c .before in
-    let g = f .before .before .before .before .before .before .args in
-    c .at-depth .result ≡ atDepth (g .upper) (cornerOf (orbitAt (g .m) (g .a .down)) (g .x .units)) (cornerOf (orbitAt (g .m) (g .a .up)) (g .x .units)) (f .further .result)
-corners-say c =
-    let f = c .before in
-    let g = f .before .before .before .before .before .before .args in
-    c .at-depth .ensures
-    ∙ ap₂ (λ (p q : Corner). atDepth (g .upper) p q (f .further .result)) (f .before .before .before .before .corner-at .ensures) (f .before .before .before .corner-at2 .ensures)
+    → let g = start (c .before) .args in
+    c .at-depth .result
+    ≡ atDepth (g .upper) (cornerOf (orbitAt (g .m) (g .a .down)) (g .x .units)) (cornerOf (orbitAt (g .m) (g .a .up)) (g .x .units)) (c .before .further .result)
+corners-say c = c .at-depth .ensures ∙ at-corners (c .before) (c .before .further .result)
+
+-- no lesser depth accepts
+before : (c : tie.After-further Inv-loop μ-loop)
+    → let g = start c .args in
+    (l : ℕ) → 1 ≤ l → l ≤ c .before .loop .w .pairs → T (not (endAt (g .upper) (oneMean (g .m) (g .a)) l (g .x .units)))
+before c =
+    let s = start c in
+    let w = c .before .loop .w in
+    let f = few c in
+    none-before (s .args .x .units) (s .pre .angle .top) (w .pairs) (omega arith) w (c .before .loop .inv .0) (s .args .m) (s .args .a) (s .args .upper)
+    (λ h. sym (ap (λ (t : AtDepth). t .accepts) (at-corners c w)) ∙ c .before .loop .inv .2 h)
 
 cast-pairs : tie.Need-cast-pairs Inv-loop μ-loop
 cast-pairs c = search needs
@@ -79,7 +99,7 @@ loop-holds : tie.Need-loop-holds Inv-loop μ-loop
 loop-holds c =
     let e = c .begin .ensures ∙ begins sine _ in
     let f = ap (λ (t : Walk). t .pairs) e in
-    (own-pairs _ _ _ e, omega (arith, c .before .before .before .before .pre .depth .some))
+    (own-pairs _ _ _ e, omega (arith, c .before .before .before .before .pre .depth .some), λ h. absurd (let z : ⊥ = omega arith in z))
 
 further-requires : tie.Need-further-requires Inv-loop μ-loop
 further-requires c κs =
@@ -90,38 +110,62 @@ at-depth-requires c κs = corners-in c
 
 returns : tie.Need-returns Inv-loop μ-loop
 returns c =
-    let f = c .before .before in
-    let s = f .before .before .before .before .before .before in
+    let d = c .before .before in
+    let f = d .before in
+    let s = start f in
     let g = s .args in
-    let e = corners-say (c .before) in
-    ap (λ (t : AtDepth). t .accepts) e
-    ∙ settles-on (g .x .units) (s .pre .angle .top) (f .further .result) _ (next f) (few f) (g .m) (g .a) (g .upper)
-    (sym (ap (λ (t : AtDepth). t .settles) e) ∙ c .if1 .taken) (g .depth .pairs) (omega (arith, f .before .loop .inv .1)) (s .pre .depth .few)
+    let e = corners-say d in
+    pairs-is f
+    ∙ sym (reports (g .x .units) (s .pre .angle .top) (f .further .result) _ (next f) (few f) (g .m) (g .a) (g .upper)
+    (sym (ap (λ (t : AtDepth). t .settles) e) ∙ c .before .if1 .taken) (sym (ap (λ (t : AtDepth). t .accepts) e) ∙ c .if2 .taken) (before f)
+    (g .depth .pairs) (omega (arith, f .before .loop .inv .1)) (s .pre .depth .few))
 
 returns-2 : tie.Need-returns-2 Inv-loop μ-loop
 returns-2 c =
+    let d = c .before .before in
+    let f = d .before in
+    let s = start f in
+    let g = s .args in
+    let e = corners-say d in
+    sym (none _ (g .depth .pairs)
+    (sym (settles-on (g .x .units) (s .pre .angle .top) (f .further .result) _ (next f) (few f) (g .m) (g .a) (g .upper)
+    (sym (ap (λ (t : AtDepth). t .settles) e) ∙ c .before .if1 .taken) (g .depth .pairs) (omega (arith, f .before .loop .inv .1)) (s .pre .depth .few))
+    ∙ sym (ap (λ (t : AtDepth). t .accepts) e) ∙ c .if2 .left))
+
+returns-3 : tie.Need-returns-3 Inv-loop μ-loop
+returns-3 c =
     let e = c .before .before in
     let f = e .before .before in
-    let s = f .before .before .before .before .before .before in
+    let s = start f in
     let g = s .args in
     let unsettled = sym (ap (λ (t : AtDepth). t .settles) (corners-say (e .before))) ∙ e .if1 .left in
-    elim (c .if2 .came) [
+    let refused : endAt (g .upper) (oneMean (g .m) (g .a)) (g .depth .pairs) (g .x .units) ≡ false =
+    elim (c .if3 .came) [
       | inl t ↦
-          goes-on (g .x .units) (s .pre .angle .top) (f .further .result) _ (next f) (few f) (g .m) (g .a) (g .upper) unsettled
-          ∙ ap (λ (n : ℕ). endAt (g .upper) (oneMean (g .m) (g .a)) n (g .x .units)) (sym (pairs-is f) ∙ t .taken)
+          sym (goes-on (g .x .units) (s .pre .angle .top) (f .further .result) _ (next f) (few f) (g .m) (g .a) (g .upper) unsettled
+          ∙ ap (λ (n : ℕ). endAt (g .upper) (oneMean (g .m) (g .a)) n (g .x .units)) (sym (pairs-is f) ∙ t .taken))
       | inr p ↦
-          stops-on (g .x .units) (s .pre .angle .top) (f .further .result) _ (next f) (few f) (g .m) (g .a) (g .upper) unsettled
-          (sym (p .1 .ensures) ∙ p .2 .taken) (g .depth .pairs) (omega (arith, f .before .loop .inv .1))
-    ]
+          sym (stops-on (g .x .units) (s .pre .angle .top) (f .further .result) _ (next f) (few f) (g .m) (g .a) (g .upper) unsettled
+          (sym (p .1 .ensures) ∙ p .2 .taken) (g .depth .pairs) (omega (arith, f .before .loop .inv .1)))
+    ] in
+    sym (none _ (g .depth .pairs) refused)
 
 loop-less : tie.Need-loop-less Inv-loop μ-loop
 loop-less c = let f = c .before .before .before .before .before .before in let k = pairs-is f in omega (arith, f .before .loop .inv .1)
 
 loop-again : tie.Need-loop-again Inv-loop μ-loop
 loop-again c =
-    let f = c .before .before .before .before .before .before in
+    let e = c .before .before .before .before in
+    let f = e .before .before in
     let k = pairs-is f in
-    (own-pairs _ _ _ (next f), omega (arith, f .before .loop .inv .1, c .before .before .if2 .left))
+    let r = e .before .at-depth .ensures in
+    (
+      own-pairs _ _ _ (next f),
+      omega (arith, f .before .loop .inv .1, c .before .before .if3 .left),
+      λ h.
+          now-unsettled (start f .args .upper) (f .before .before .before .before .corner-at .result) (f .before .before .before .corner-at2 .result)
+          (f .further .result) (sym (ap (λ (t : AtDepth). t .settles) r) ∙ e .if1 .left),
+    )
 
 pub settle-spec : {M : Type 1} → statement M
 settle-spec =
@@ -137,7 +181,8 @@ settle-spec =
     further-requires
     at-depth-requires
     returns
-    (λ c κs. search needs)
     returns-2
+    (λ c κs. search needs)
+    returns-3
     loop-less
     loop-again)

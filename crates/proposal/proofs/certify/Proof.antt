@@ -6,8 +6,10 @@ use native.Mathlib.Omega.{arith}
 use native.Mathlib.Numerals.{add-one}
 use lib.Dec.{T}
 use borrow.Author.Needs.{needs}
-use Rattle.proposal.specs.Certify.{certifies, firstFrom, certificate, widths}
-use Rattle.proposal.proofs.Smallest.{above, stops, goes}
+use Rattle.whole.specs.First.{firstFrom}
+use Rattle.whole.proofs.First.{stops, goes}
+use Rattle.proposal.specs.Certify.{certifies, certificate, widths}
+use Rattle.proposal.proofs.Smallest.{above}
 use Rattle.proposal.proofs.Certificate.{last-width}
 use Rattle.proposal.proofs.certify.Statement.{statement}
 use Rattle.proposal.proofs.certify.Tie as tie
