@@ -1,15 +1,15 @@
 -- What a reported least depth says: there the test passes, and at no lesser depth; 0 says that the last depth fails it.
 -- Assumes nothing.
 use mathlib.Core.Path.{_≡_, refl, sym, ap, subst, _∙_}
-use mathlib.Core.Bool.{Bool, true, false, not, cond}
-use mathlib.Core.Logic.{⊎-elim}
+use mathlib.Core.Bool.{Bool, true, false, not, cond, _&&_}
+use mathlib.Core.Logic.{⊎-elim, _↔_}
 use Prim.Native.Nat.{ℕ, _-_, _≤_, _<_}
 use native.Mathlib.Omega.{arith}
 use native.Mathlib.Nat.{eq-or-lt-of-le}
 use borrow.Author.Tests.{ne-eqb}
-use lib.Dec.{T, eqb}
+use lib.Dec.{T, eqb, T-not, not-T}
 use Rattle.whole.specs.First.{firstFrom}
-use Rattle.whole.proofs.Bools.{passed, passes}
+use Rattle.whole.proofs.Bools.{passed, passes, fails}
 use Rattle.whole.proofs.First.{First, first, only}
 use Rattle.ends.specs.Least.{leastDepth}
 
@@ -73,3 +73,29 @@ module _ (test : ℕ → Bool) (d : ℕ) where
 
   pub says-none : leastDepth test d ≡ 0 → test d ≡ false
   says-none e = sym (is-some 0 (sym e))
+
+-- ---- two tests
+
+-- a test after a first one that no depth changes, which passed or failed
+pub then-least : (g : Bool) (test : ℕ → Bool) (d : ℕ) {r : ℕ} → g ≡ true → r ≡ leastDepth test d → r ≡ leastDepth (λ l. g && test l) d
+then-least g test d e h = h ∙ sym (ap (λ (t : Bool). leastDepth (λ l. t && test l) d) e)
+
+pub else-least : (g : Bool) (test : ℕ → Bool) (d : ℕ) → g ≡ false → 0 ≡ leastDepth (λ l. g && test l) d
+unfolding leastDepth
+else-least g test d e = sym (ap (λ (t : Bool). leastDepth (λ l. t && test l) d) e)
+
+-- a test that asks for another, which the last depth fails
+pub none-by : (test other : ℕ → Bool) (d : ℕ) → (T (test d) → T (other d)) → leastDepth other d ≡ 0 → 0 ≡ leastDepth test d
+none-by test other d asks e = sym (none test d (sym (fails (test d) (λ t. subst T (says-none other d e) (asks t)))))
+
+-- where a test is two others, of which the one is kept by depth: they pass from the later of their least depths on
+pub later : (test one other : ℕ → Bool) → ((l : ℕ) → T (test l) ↔ T (one l) × T (other l)) → ((l k : ℕ) → l ≤ k → T (one l) → T (one k))
+    → (d j k : ℕ) → Least one d j → Least other d k → j ≤ k → Least test d k
+later test one other means kept d j k p q h =
+    record {
+      some = q .some;
+      few = q .few;
+      here = means k .1 (kept j k h (p .here), q .here);
+      last = means d .1 (p .last, q .last);
+      before = λ l a b. not-T (test l) (λ t. T-not (other l) (q .before l a b) (means l .0 t .1));
+    }

@@ -139,3 +139,13 @@ pub alike-refused : {A : Type 0} (f g : ℕ → A) → ((k : ℕ) → f k ≡ g 
 alike-refused f g h given [] = refl
 alike-refused {A} f g h given (c ∷ cs) =
     ap₂ (λ (x y : A). cond (c .fails) x y) (h (number (c .code))) (alike-refused f g h given cs)
+
+-- answers that give the same where every check passes
+pub alike-given : {A : Type 0} (zeros : ℕ → A) (x y : A) (cs : List Check) → (Passed cs → x ≡ y) → checked cs zeros x ≡ checked cs zeros y
+alike-given zeros x y [] h = h tt
+alike-given {A} zeros x y (c ∷ cs) h = by-check (c .fails) (λ e. alike-given zeros x y cs (λ p. h (e, p)))
+  where
+    by-check : (t : Bool) → (t ≡ false → checked cs zeros x ≡ checked cs zeros y)
+        → cond t (zeros (number (c .code))) (checked cs zeros x) ≡ cond t (zeros (number (c .code))) (checked cs zeros y)
+    by-check true f = refl
+    by-check false f = f refl

@@ -8,7 +8,7 @@ use native.Mathlib.Omega.{arith}
 use Rattle.grid.specs.Grid.{depths, N-units}
 use Rattle.grid.specs.Codes.{Passed, bad-n, n-check}
 use Rattle.grid.proofs.FirstCode.{split}
-use Rattle.grid.proofs.Refuses.{Makes, makes}
+use Rattle.grid.proofs.Refuses.{Makes, makes, through, alike-given}
 use Rattle.grid.proofs.Fits.{limit-fits, depth-passes}
 use Rattle.orbit.specs.Given.{cellOf, problemChecks}
 use Rattle.orbit.proofs.Posed.{problem-in}
@@ -16,16 +16,23 @@ use Rattle.units.specs.Units.{estimate-check}
 use Rattle.units.proofs.Rounding.{estimate-fits}
 use Rattle.judge.specs.Verdict.{verdictNumber}
 use Rattle.judge.specs.Judge.{Claim, estimateOf, claimChecks, caseAt, caseVerdict, verdict, unjudged, judgeRule}
+use Rattle.judge.specs.Settle.{settledBy, unsettled}
+use Rattle.judge.specs.Decision.{settledRule}
 use Rattle.judge.specs.Exact.{ConfirmedExact, AboveExact, BelowExact, atDepth}
 use Rattle.judge.specs.Limits.{CaseIn}
 use Rattle.judge.specs.declared.Judged.{Judged}
+use Rattle.judge.specs.declared.Settled.{Settled}
 use Rattle.judge.specs.declared.Verdict.{Verdict}
 use Rattle.judge.specs.declared.Verdict.the-variants.{Confirmed, Refuted, Undecided}
+use Rattle.judge.proofs.Settles.{depth-few, from-depth}
 use Rattle.judge.proofs.Kept.{is-confirmed, is-refuted, confirmed-exact, refuted-exact, confirmed-kept, refuted-kept}
 
 module _ (k : Claim) where
   pub claims : Makes (claimChecks k) (λ (j : Judged). j .code) unjudged (verdict (caseVerdict (caseAt k)))
   claims = makes refl (λ n. refl) tt
+
+  pub settled-claims : Makes (claimChecks k) (λ (s : Settled). s .code) unsettled (settledBy (caseAt k))
+  settled-claims = makes refl (λ n. refl) tt
 
   -- a claim whose checks pass is within every limit
   pub case-in : Passed (claimChecks k) → CaseIn (caseAt k)
@@ -46,6 +53,20 @@ module _ (k : Claim) where
   pub judged-passed : (v : Verdict) → judgeRule k ≡ verdict v → Passed (claimChecks k)
   unfolding judgeRule
   judged-passed v h = claims .demand .passed .0 (ap (λ (j : Judged). j .code) h)
+
+-- R62: the code and the verdict of a settled claim
+abbrev pub toJudged : Settled → Judged
+toJudged s = record { code = s .code; verdict = s .verdict }
+
+-- R62: they are the judge's at the last depth tried
+pub judged-is : (k : Claim) → judgeRule k ≡ toJudged (settledRule k)
+unfolding judgeRule settledRule
+judged-is k =
+    alike-given unjudged (verdict (caseVerdict (caseAt k))) (toJudged (settledBy (caseAt k))) (claimChecks k)
+    (λ p.
+    let h = case-in k p in
+    ap verdict (from-depth (caseAt k) h (k .depth) (depth-few (caseAt k) h) (omega arith)))
+    ∙ sym (through toJudged unsettled (settledBy (caseAt k)) (claimChecks k))
 
 -- a verdict's number is its own
 one-verdict : (v w : Verdict) → verdictNumber v ≡ verdictNumber w → v ≡ w

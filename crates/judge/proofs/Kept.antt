@@ -23,12 +23,17 @@ use Rattle.judge.specs.declared.Verdict.the-variants.{Confirmed, Refuted
 -- ---- the two tests of a cell, an estimate and a tolerance
 
 module _ (c : Cell) (u : Units) (n : ℕ) where
-  pub confirmed-deeper : {d e : ℕ} → d ≤ e → T (confirmed c d u n) → T (confirmed c e u n)
+  pub confirmed-by : (d : ℕ) → T (confirmed c d u n) ↔ T (lowerEnd c d (lowEnd u n)) × T (upperEnd c d (highEnd u n))
   unfolding confirmed
+  confirmed-by d =
+      let low = lowerEnd c d (lowEnd u n) in
+      let high = upperEnd c d (highEnd u n) in
+      (λ t. both-parts low high t, λ s. both low high (s .0) (s .1))
+
+  pub confirmed-deeper : {d e : ℕ} → d ≤ e → T (confirmed c d u n) → T (confirmed c e u n)
   confirmed-deeper {d} {e} h t =
-      let s = both-parts (lowerEnd c d (lowEnd u n)) (upperEnd c d (highEnd u n)) t in
-      both (lowerEnd c e (lowEnd u n)) (upperEnd c e (highEnd u n)) (deeper false c (lowEnd u n) h (s .0))
-      (deeper true c (highEnd u n) h (s .1))
+      let s = confirmed-by d .0 t in
+      confirmed-by e .1 (deeper false c (lowEnd u n) h (s .0), deeper true c (highEnd u n) h (s .1))
 
   -- a refuting end: above q, or below p
   pub record RefutedAbove (d : ℕ) : Type 0 where
@@ -61,17 +66,28 @@ module _ (c : Cell) (u : Units) (n : ℕ) where
         r),
   )
 
+  pub above-deeper : {d e : ℕ} → d ≤ e → T (lowerAbove c d u n) → T (lowerAbove c e u n)
+  above-deeper {d} {e} h t =
+      let X = u .floor + n + 1 in
+      let s = both-parts (leb X T-units) (lowerEnd c d X) t in
+      both (leb X T-units) (lowerEnd c e X) (s .0) (deeper false c X h (s .1))
+
+  pub below-deeper : {d e : ℕ} → d ≤ e → T (upperBelow c d u n) → T (upperBelow c e u n)
+  below-deeper {d} {e} h t =
+      let X = u .ceiling - (n + 1) in
+      let s = both-parts (leb (n + 1) (u .ceiling)) (upperEnd c d X) t in
+      both (leb (n + 1) (u .ceiling)) (upperEnd c e X) (s .0) (deeper true c X h (s .1))
+
   pub refuted-deeper : {d e : ℕ} → d ≤ e → T (refuted c d u n) → T (refuted c e u n)
-  refuted-deeper h t =
-      refuted-by .1
-      (⊎-elim (λ a. inl (record { within = a .within; lower = deeper false c (u .floor + n + 1) h (a .lower) }))
-      (λ b. inr (record { within = b .within; upper = deeper true c (u .ceiling - (n + 1)) h (b .upper) })) (refuted-by .0 t))
+  unfolding refuted
+  refuted-deeper {d} {e} h t =
+      either (lowerAbove c e u n) (upperBelow c e u n)
+      (⊎-elim (λ a. inl (above-deeper h a)) (λ b. inr (below-deeper h b)) (either-part (lowerAbove c d u n) (upperBelow c d u n) t))
 
   -- R46: no claim is both, not even at two depths: the ends would be out of order
   pub never-both : CellIn c → u .ceiling ≤ T-units → (d e : ℕ) → d ≤ depths → e ≤ depths → T (confirmed c d u n) → T (refuted c e u n) → ⊥
-  unfolding confirmed
   never-both i top d e j k s t =
-      let p = both-parts (lowerEnd c d (lowEnd u n)) (upperEnd c d (highEnd u n)) s in
+      let p = confirmed-by d .0 s in
       ⊎-elim
       (λ a.
       let w = a .within in

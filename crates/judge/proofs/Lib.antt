@@ -1,3 +1,4 @@
 pub mod Kept
+pub mod Settles
 pub mod Answered
 pub mod CodeAnswers

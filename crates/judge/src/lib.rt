@@ -3,7 +3,10 @@ ghost use mathlib.Core.Path.{_≡_};
 ghost use Rattle.orbit.specs.Given.{grid, doubles};
 ghost use Rattle.orbit.specs.Posed.{ByProblem, PosedIn};
 ghost use Rattle.judge.specs.Verdict.{confirmed, lowerAbove, upperBelow, verdictNumber};
-ghost use Rattle.judge.specs.Judge.{caseVerdict, judgeRule};
+ghost use Rattle.ends.specs.Least.{leastDepth};
+ghost use Rattle.judge.specs.Judge.{judgeRule};
+ghost use Rattle.judge.specs.Settle.{settleRule};
+ghost use Rattle.judge.specs.Decision.{decision, settledRule};
 ghost use Rattle.judge.specs.Limits.{CaseIn};
 use grid::Angle;
 use grid::Depth;
@@ -158,11 +161,12 @@ fn settle_posed(posed: CodedProblem, estimate: f64, n: u32) -> Settled
         units,
         tolerance: n as u64,
     };
-    let made = decide(k);
+    let decided = decide(k);
+    let verdict = decided.verdict;
     Settled {
         code,
-        verdict: number_of(made.verdict),
-        depth: made.depth as u32,
+        verdict: number_of(verdict),
+        depth: decided.depth as u32,
     }
 }
 

@@ -21,7 +21,7 @@ use Rattle.units.proofs.Range.{passed-in-range, floor-fits, ceiling-fit
 use Rattle.units.proofs.Made.{estimates}
 
 pub estimate-fits : (x : Float) → estimate-check x .fails ≡ false → UnitsIn (floorAndCeiling x)
-estimate-fits x h = let r = passed-in-range T-units x h in record { floor = floor-fits r; ceiling = ceiling-fits r }
+estimate-fits x h = let r = passed-in-range T-units x h in record { floor = floor-fits r; ceiling = ceiling-fits r; next = up-le-next (product x) (den x) (den-pos x) }
 
 rounded : (a d : ℕ) → 0 < d → up a d ≤ T-units → Rounded a d (down a d) (up a d)
 rounded a d D h =

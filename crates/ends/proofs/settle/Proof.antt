@@ -150,6 +150,18 @@ returns-3 c =
     ] in
     sym (none _ (g .depth .pairs) refused)
 
+-- what wasn't settled wasn't accepted
+unsettled : (c : tie.Else1 Inv-loop μ-loop)
+    → let f = c .before .before in
+    atDepth (start f .args .upper) (f .before .before .before .before .corner-at .result) (f .before .before .before .corner-at2 .result) (f .further .result) .accepts
+    ≡ false
+unsettled c =
+    let f = c .before .before in
+    let r = c .before .at-depth .result in
+    let s : r .settles ≡ false = c .if1 .left in
+    now-unsettled (start f .args .upper) (f .before .before .before .before .corner-at .result) (f .before .before .before .corner-at2 .result)
+    (f .further .result) (rw (c .before .at-depth .ensures) at s)
+
 loop-less : tie.Need-loop-less Inv-loop μ-loop
 loop-less c = let f = c .before .before .before .before .before .before in let k = pairs-is f in omega (arith, f .before .loop .inv .1)
 
@@ -158,14 +170,7 @@ loop-again c =
     let e = c .before .before .before .before in
     let f = e .before .before in
     let k = pairs-is f in
-    let r = e .before .at-depth .ensures in
-    (
-      own-pairs _ _ _ (next f),
-      omega (arith, f .before .loop .inv .1, c .before .before .if3 .left),
-      λ h.
-          now-unsettled (start f .args .upper) (f .before .before .before .before .corner-at .result) (f .before .before .before .corner-at2 .result)
-          (f .further .result) (sym (ap (λ (t : AtDepth). t .settles) r) ∙ e .if1 .left),
-    )
+    (own-pairs _ _ _ (next f), omega (arith, f .before .loop .inv .1, c .before .before .if3 .left), λ h. unsettled e)
 
 pub settle-spec : {M : Type 1} → statement M
 settle-spec =
