@@ -1,7 +1,7 @@
 -- R62: which depth is the first to decide, from the least depths of the tests behind a verdict; and that its verdict is the last
 -- depth's. Assumes nothing.
 use mathlib.Core.Path.{_≡_, refl, sym, ap, ap₂, subst}
-use mathlib.Core.Bool.{Bool, true, false, cond, _||_}
+use mathlib.Core.Bool.{Bool, true, false, not, cond, _||_}
 use mathlib.Core.Logic.{_⊎_, inl, inr, ⊎-elim}
 use Prim.Native.Nat.{ℕ, _+_, _-_, _≤_, _<_}
 use native.Mathlib.Omega.{arith}
@@ -194,6 +194,14 @@ module _ (k : Case) (h : CaseIn k) where
   depth-few =
       let t = first (decidesAt (k .problem .cell) (k .units) (k .tolerance)) 1 (k .problem .depth .pairs - 1) .to in
       omega (arith, h .problem .depth .some)
+
+  pub before-depth : (d : ℕ) → 1 ≤ d → d < settledDepth k → T (not (decides (verdictAt k d)))
+  unfolding settledDepth
+  before-depth = first (decidesAt (k .problem .cell) (k .units) (k .tolerance)) 1 (k .problem .depth .pairs - 1) .before
+
+  pub at-depth : settledDepth k < k .problem .depth .pairs → T (decides (verdictAt k (settledDepth k)))
+  unfolding settledDepth
+  at-depth l = first (decidesAt (k .problem .cell) (k .units) (k .tolerance)) 1 (k .problem .depth .pairs - 1) .here (omega arith)
 
   pub from-depth : (d : ℕ) → settledDepth k ≤ d → d ≤ k .problem .depth .pairs → verdictAt k d ≡ verdictAt k (settledDepth k)
   unfolding settledDepth

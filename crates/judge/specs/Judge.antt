@@ -17,6 +17,9 @@ pub record Claim : Type 0 where
   pub n : ℕ
   pub depth : ℕ
 
+abbrev pub claimOf : Given → Float → ℕ → ℕ → Claim
+claimOf g x n d = record { given = g; estimate = x; n = n; depth = d }
+
 -- R59: the estimate, mirrored with M
 abbrev pub estimateOf : Claim → Float
 estimateOf c = mirrorDouble (mirroredOf (c .given)) (c .estimate)

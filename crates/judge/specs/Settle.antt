@@ -9,7 +9,7 @@ use Rattle.grid.specs.Codes.{Check, number, done, checked, n-check}
 use Rattle.orbit.specs.Given.{Given, mirroredOf, checksOf}
 use Rattle.units.specs.Units.{mirrorDouble, estimate-check}
 use Rattle.judge.specs.Verdict.{verdictOf, verdictNumber}
-use Rattle.judge.specs.Judge.{caseAt}
+use Rattle.judge.specs.Judge.{claimOf, caseAt}
 use Rattle.judge.specs.declared.Case.{Case}
 use Rattle.judge.specs.declared.Settled.{Settled}
 use Rattle.judge.specs.declared.Verdict.{Verdict}
@@ -29,9 +29,13 @@ verdictAt k d = verdictOf (k .problem .cell) d (k .units) (k .tolerance)
 unfoldable pub settledDepth : Case → ℕ
 settledDepth k = firstFrom (λ d. decides (verdictAt k d)) 1 (k .problem .depth .pairs - 1)
 
--- R62: the answer: that depth and its verdict
+-- R62: the answer that gives a verdict and a depth
+abbrev pub settledAs : Verdict → ℕ → Settled
+settledAs v d = record { code = number done; verdict = verdictNumber v; depth = d }
+
+-- R62: that depth and its verdict
 abbrev pub settledBy : Case → Settled
-settledBy k = record { code = number done; verdict = verdictNumber (verdictAt k (settledDepth k)); depth = settledDepth k }
+settledBy k = settledAs (verdictAt k (settledDepth k)) (settledDepth k)
 
 -- R7: zeros beside a code
 abbrev pub unsettled : ℕ → Settled
@@ -43,5 +47,4 @@ settleChecks g x n = checksOf g ++ estimate-check (mirrorDouble (mirroredOf g) x
 
 -- R62: the first code of these checks, and where there is none the answer by depths up to 5
 unfoldable pub settleRule : Given → Float → ℕ → Settled
-settleRule g x n =
-    checked (settleChecks g x n) unsettled (settledBy (caseAt (record { given = g; estimate = x; n = n; depth = depths })))
+settleRule g x n = checked (settleChecks g x n) unsettled (settledBy (caseAt (claimOf g x n depths)))

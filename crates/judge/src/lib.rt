@@ -126,19 +126,31 @@ fn decide(k: Case) -> Decision
 {
     let depth = confirmed_from(k);
     if depth != 0 {
-        return Decision { verdict: Verdict::Confirmed, depth };
+        return Decision {
+            verdict: Verdict::Confirmed,
+            depth,
+        };
     }
     let depth = lower_above(k);
     if depth != 0 {
-        return Decision { verdict: Verdict::Refuted, depth };
+        return Decision {
+            verdict: Verdict::Refuted,
+            depth,
+        };
     }
     let depth = upper_below(k);
     if depth != 0 {
-        return Decision { verdict: Verdict::Refuted, depth };
+        return Decision {
+            verdict: Verdict::Refuted,
+            depth,
+        };
     }
     let problem = k.problem;
     let last = problem.depth;
-    Decision { verdict: Verdict::Undecided, depth: last.pairs as u64 }
+    Decision {
+        verdict: Verdict::Undecided,
+        depth: last.pairs as u64,
+    }
 }
 
 // The verdict on a claim about whatever was given and the least depth that gives it, or its code. On the mirror the estimate is
@@ -152,7 +164,11 @@ fn settle_posed(posed: CodedProblem, estimate: f64, n: u32) -> Settled
     let n_code = codes::limited(n, N_LIMIT, codes::BAD_N);
     let code = codes::earlier(posed.code, codes::earlier(made.code, n_code));
     if code != codes::DONE {
-        return Settled { code, verdict: 0, depth: 0 };
+        return Settled {
+            code,
+            verdict: 0,
+            depth: 0,
+        };
     }
     let problem = posed.problem;
     let units = made.units;
@@ -176,7 +192,10 @@ fn judge_posed(posed: CodedProblem, estimate: f64, n: u32) -> Judged
     ensures { λ r. ⌜ ByProblem posed (λ g d. judgeRule (record { given = g; estimate = estimate; n = n; depth = d })) r ⌝ }
 {
     let s = settle_posed(posed, estimate, n);
-    Judged { code: s.code, verdict: s.verdict }
+    Judged {
+        code: s.code,
+        verdict: s.verdict,
+    }
 }
 
 // The verdict on a claim, or the code of what is out of limits: 1, 2, 3, 4, then 5.

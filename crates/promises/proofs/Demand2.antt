@@ -34,6 +34,7 @@ use Rattle.proposal.specs.Propose.{concluded, mirrorProposal, proposalRule}
 use Rattle.proposal.proofs.Certificate.{certificate-only, concluded-smallest, concluded-true}
 use Rattle.judge.specs.declared.Verdict.the-variants.{Confirmed, Refuted}
 use Rattle.judge.proofs.Answered.{confirmed-says, refuted-says}
+use Rattle.judge.proofs.SettleAnswers.{confirmed-true, refuted-true}
 use Rattle.claims.specs.Form.{twenty}
 use Rattle.claims.specs.Record.{claimAt}
 use Rattle.promises.specs.Demand2.{SineTrue, EndTrue, EndsTrue, AcceptedAt, Certified, Demand2}
@@ -144,6 +145,8 @@ demand-2 =
           (certified g (join (checksOf g) (depth-check depths ∷ []) p (refl, tt)) _ (cell-in g p .mean));
       confirmed = confirmed-says;
       refuted = refuted-says;
+      settled-confirmed = confirmed-true;
+      settled-refuted = refuted-true;
       byte-confirmed = λ claims answers i h e. confirmed-says (claimAt twenty claims i) (after-judged claims answers i Confirmed h e);
       byte-refuted = λ claims answers i h e. refuted-says (claimAt twenty claims i) (after-judged claims answers i Refuted h e);
       rules = rules;

@@ -32,7 +32,7 @@ use Rattle.judge.proofs.Answered.{case-in, judged-passed, confirmed-at, refuted
 use Rattle.claims.specs.Form.{twenty}
 use Rattle.claims.specs.Record.{reserved-check, claimAt, answerAt}
 use Rattle.claims.proofs.AnswerBytes.{byteOf, byte-is}
-use Rattle.promises.specs.Demand3.{Settled, Again, Demand3}
+use Rattle.promises.specs.Demand3.{Decided, Again, Demand3}
 use Rattle.promises.proofs.Bytes.{byte-judged}
 use Rattle.promises.proofs.Mirror.{neg-le, inside}
 use Rattle.promises.proofs.Ends.{accepted-says}
@@ -56,7 +56,7 @@ never-both c d e s t =
           two-verdicts (judgeRule (atDepth c d)) s (refuted-at (atDepth c e) d (omega arith) (few (atDepth c d) Confirmed s) t)
     ]
 
-kept : (c : Claim) (v : Verdict) (e : ℕ) → Settled v → c .depth ≤ e → e ≤ depths
+kept : (c : Claim) (v : Verdict) (e : ℕ) → Decided v → c .depth ≤ e → e ≤ depths
     → judgeRule c ≡ verdict v → judgeRule (atDepth c e) ≡ verdict v
 kept c v e s h k j =
     elim s [
@@ -72,7 +72,7 @@ judged-byte claims i v zero e =
     ∙ goes (reserved-check twenty claims (i * twenty .width) ∷ []) (zero, tt) (λ (k : ℕ). k) (byteOf (judgeRule (claimAt twenty claims i)))
     ∙ ap byteOf e
 
-byte-kept : (claims others : List ℕ) (i j : ℕ) (v : Verdict) (e : ℕ) → Again claims i others j e → Settled v
+byte-kept : (claims others : List ℕ) (i j : ℕ) (v : Verdict) (e : ℕ) → Again claims i others j e → Decided v
     → claimAt twenty claims i .depth ≤ e → e ≤ depths
     → answerAt twenty claims i ≡ verdictNumber v → answerAt twenty others j ≡ verdictNumber v
 byte-kept claims others i j v e again s h k b =

@@ -33,6 +33,7 @@ use Rattle.proposal.proofs.Certificate.{certified, concluded-true}
 use Rattle.units.specs.Units.{offRange, unitsWith, codedEstimate}
 use Rattle.units.proofs.Rounding.{made-exact, made-rounded}
 use Rattle.claim_file.proofs.Output as program
+use Rattle.judge.proofs.SettleAnswers as settle
 use Rattle.promises.specs.Further.{Sums, Ends, Searches, Proposals, Estimates, Further}
 use Rattle.promises.proofs.Alike.{mirrored, doubles-met}
 use Rattle.promises.proofs.Mirror.{at-0}
@@ -148,6 +149,15 @@ further =
       searches = searches;
       proposals = proposals;
       estimates = estimates;
+      settles =
+          record {
+            at-last = settle.at-last;
+            some = settle.some;
+            few = settle.few;
+            lesser = settle.lesser;
+            from = λ g x n z d h k. settle.from-there g x n z d h k ∙ rw z refl;
+            undecided = settle.none-decides;
+          };
       mirrored = mirrored;
       doubles = doubles-met;
       program = record { complete = program.complete; longer = program.longer; cut = program.cut };

@@ -21,6 +21,7 @@ unique =
       enclose = λ g d. one _;
       propose = λ g. one _;
       judge = λ c. one _;
+      settle = λ g x n. one _;
       judge-claims = λ claims before r s e f. both (e .result ∙ sym (f .result)) (e .answers ∙ sym (f .answers));
       angle = λ n. one _;
       signed-angle = λ z. one _;

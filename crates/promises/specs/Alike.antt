@@ -9,17 +9,16 @@ use Rattle.ends.specs.Entry.{endRule}
 use Rattle.enclosure.specs.Enclosure.{enclosureRule}
 use Rattle.enclosure.specs.declared.Enclosure.{Enclosure}
 use Rattle.proposal.specs.Propose.{mirrorProposal, proposalRule}
-use Rattle.judge.specs.Judge.{Claim, judgeRule}
-
-abbrev pub claim : Given → Float → ℕ → ℕ → Claim
-claim g x n d = record { given = g; estimate = x; n = n; depth = d }
+use Rattle.judge.specs.Judge.{claimOf, judgeRule}
+use Rattle.judge.specs.Settle.{settleRule}
 
 -- R60: whatever X, estimate, N and depth
 pub record Same (g h : Given) : Type 0 where
   pub ends : (upper : Bool) (x : ℤ) (d : ℕ) → endRule upper x g d ≡ endRule upper x h d
   pub enclose : (d : ℕ) → enclosureRule g d ≡ enclosureRule h d
   pub propose : proposalRule g ≡ proposalRule h
-  pub judge : (x : Float) (n d : ℕ) → judgeRule (claim g x n d) ≡ judgeRule (claim h x n d)
+  pub judge : (x : Float) (n d : ℕ) → judgeRule (claimOf g x n d) ≡ judgeRule (claimOf h x n d)
+  pub settle : (x : Float) (n : ℕ) → settleRule g x n ≡ settleRule h x n
 
 -- R59: an enclosure with its ends negated and exchanged
 abbrev pub exchanged : Enclosure → Enclosure
@@ -30,4 +29,5 @@ pub record Mirrors (g h : Given) : Type 0 where
   pub ends : (upper : Bool) (x : ℤ) (d : ℕ) → endRule upper x g d ≡ endRule (not upper) (negℤ x) h d
   pub enclose : (d : ℕ) → enclosureRule g d ≡ exchanged (enclosureRule h d)
   pub propose : proposalRule g ≡ mirrorProposal true (proposalRule h)
-  pub judge : (x : Float) (n d : ℕ) → judgeRule (claim g x n d) ≡ judgeRule (claim h (neg x) n d)
+  pub judge : (x : Float) (n d : ℕ) → judgeRule (claimOf g x n d) ≡ judgeRule (claimOf h (neg x) n d)
+  pub settle : (x : Float) (n : ℕ) → settleRule g x n ≡ settleRule h (neg x) n

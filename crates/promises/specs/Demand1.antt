@@ -28,8 +28,10 @@ use Rattle.enclosure.specs.declared.Enclosure.{Enclosure}
 use Rattle.proposal.specs.Propose.{proposalRefused, proposalRule}
 use Rattle.proposal.specs.declared.Proposal.{Proposal}
 use Rattle.judge.specs.Verdict.{verdictNumber}
-use Rattle.judge.specs.Judge.{Claim, claimChecks, unjudged, judgeRule}
+use Rattle.judge.specs.Judge.{Claim, claimOf, claimChecks, unjudged, judgeRule}
+use Rattle.judge.specs.Settle.{settleChecks, unsettled, settleRule}
 use Rattle.judge.specs.declared.Judged.{Judged}
+use Rattle.judge.specs.declared.Settled.{Settled}
 use Rattle.judge.specs.declared.Verdict.the-variants.{Confirmed, Refuted, Undecided}
 use Rattle.claims.specs.Form.{twenty}
 use Rattle.claims.specs.Record.{recordChecks, answerAt}
@@ -56,6 +58,8 @@ pub record Demand1 : Type 0 where
   pub enclose : (g : Given) (d : ℕ) → Refuses (enclosureChecks g d) (λ (r : Enclosure). r .code) refusal (enclosureRule g d)
   pub propose : (g : Given) → Refuses (checksOf g) (λ (r : Proposal). r .code) proposalRefused (proposalRule g)
   pub judge : (c : Claim) → Refuses (claimChecks c) (λ (r : Judged). r .code) unjudged (judgeRule c)
+  pub settle : (g : Given) (x : Float) (n : ℕ)
+      → Refuses (settleChecks g x n) (λ (r : Settled). r .code) unsettled (settleRule g x n)
   pub batch : (claims answers : List ℕ)
       → Refuses (batchChecks twenty (length claims) (length answers)) (λ (r : Batch). r .code) (λ k. batchWith k 0)
       (batchOf claims answers)
@@ -77,7 +81,7 @@ pub record Demand1 : Type 0 where
   pub in-order : (x a d n i : ℕ) (z : ℤ) (g : Given) (f : Float) (claims answers : List ℕ)
       → T (all (inOrder order)
       (sineChecks x d ∷ endChecks z g d ∷ enclosureChecks g d ∷ checksOf g ∷ problemChecks g d
-      ∷ claimChecks (record { given = g; estimate = f; n = n; depth = d }) ∷ batchChecks twenty (length claims) (length answers) ∷ recordChecks twenty claims i ∷ (x-check x ∷ [])
+      ∷ claimChecks (claimOf g f n d) ∷ settleChecks g f n ∷ batchChecks twenty (length claims) (length answers) ∷ recordChecks twenty claims i ∷ (x-check x ∷ [])
       ∷ (signed-x-check z ∷ []) ∷ (a-check a ∷ [])
       ∷ (depth-check d ∷ []) ∷ (estimate-check f ∷ []) ∷ []))
   -- R5: when each check fails

@@ -7,6 +7,7 @@ use mathlib.Core.Logic.{_⊎_}
 use Prim.Native.Nat.{ℕ, _≤_, _<_}
 use lib.IntN.{ℤ, pos, natAbs, _+ℤ_, _-ℤ_, _*ℤ_}
 use lib.Signed.{_≤ℤ_}
+use lib.Ieee.{Float}
 use Rattle.grid.specs.Grid.{T-units, depths}
 use Rattle.grid.specs.Codes.{number, done}
 use Rattle.series.specs.Sine.{S9, S10, den9, den10}
@@ -22,7 +23,8 @@ use Rattle.proposal.specs.Certify.{lowAt, highAt, certifies, widths, Smallest}
 use Rattle.proposal.specs.Propose.{proposalRule}
 use Rattle.proposal.specs.declared.Proposal.{Proposal}
 use Rattle.judge.specs.Verdict.{verdictNumber}
-use Rattle.judge.specs.Judge.{Claim, caseAt, verdict, judgeRule}
+use Rattle.judge.specs.Judge.{Claim, claimOf, caseAt, verdict, judgeRule}
+use Rattle.judge.specs.Settle.{settledAs, settleRule}
 use Rattle.judge.specs.declared.Verdict.the-variants.{Confirmed, Refuted}
 use Rattle.judge.specs.Exact.{ConfirmedExact, AboveExact, BelowExact}
 use Rattle.claims.specs.Form.{twenty}
@@ -99,9 +101,11 @@ pub record Demand2 : Type 0 where
   pub enclose : (g : Given) (d : ℕ) → enclosureRule g d .code ≡ number done → EndsTrue g d (enclosureRule g d)
   -- R38
   pub propose : (g : Given) → proposalRule g .code ≡ number done → Certified g (proposalRule g)
-  -- R43, R44: the ends of a verdict, from the judge and from a batch
+  -- R43, R44: the ends of a verdict, from the judge, from `settle` and from a batch
   pub confirmed : (c : Claim) → judgeRule c ≡ verdict Confirmed → ConfirmedTrue c
   pub refuted : (c : Claim) → judgeRule c ≡ verdict Refuted → RefutedTrue c
+  pub settled-confirmed : (g : Given) (x : Float) (n d : ℕ) → settleRule g x n ≡ settledAs Confirmed d → ConfirmedTrue (claimOf g x n d)
+  pub settled-refuted : (g : Given) (x : Float) (n d : ℕ) → settleRule g x n ≡ settledAs Refuted d → RefutedTrue (claimOf g x n d)
   pub byte-confirmed : (claims answers : List ℕ) (i : ℕ) → i < batchOf claims answers .count
       → byteAfter claims answers i ≡ verdictNumber Confirmed → ConfirmedTrue (claimAt twenty claims i)
   pub byte-refuted : (claims answers : List ℕ) (i : ℕ) → i < batchOf claims answers .count

@@ -30,8 +30,8 @@ pub record Within (inner outer : Enclosure) : Type 0 where
   pub upper : inner .upper ≤ℤ outer .upper
 
 -- Confirmed or Refuted
-abbrev pub Settled : Verdict → Type 0
-Settled v = (v ≡ Confirmed) ⊎ (v ≡ Refuted)
+abbrev pub Decided : Verdict → Type 0
+Decided v = (v ≡ Confirmed) ⊎ (v ≡ Refuted)
 
 -- record k of the others is record i of the claims at another depth
 pub record Again (claims : List ℕ) (i : ℕ) (others : List ℕ) (k other : ℕ) : Type 0 where
@@ -40,7 +40,7 @@ pub record Again (claims : List ℕ) (i : ℕ) (others : List ℕ) (k other : �
 
 pub record Demand3 : Type 0 where
   -- R47
-  pub kept : (c : Claim) (v : Verdict) (other : ℕ) → Settled v → c .depth ≤ other → other ≤ depths
+  pub kept : (c : Claim) (v : Verdict) (other : ℕ) → Decided v → c .depth ≤ other → other ≤ depths
       → judgeRule c ≡ verdict v → judgeRule (atDepth c other) ≡ verdict v
   -- R46, of the tests of a problem that was posed: where the confirming ones hold at one depth, the refuting ones hold at none
   pub tests-never-both : (c : Cell) (u : Units) (n d other : ℕ) → CellIn c → u .ceiling ≤ T-units → d ≤ depths → other ≤ depths
@@ -49,7 +49,7 @@ pub record Demand3 : Type 0 where
   pub never-both : (c : Claim) (d other : ℕ)
       → judgeRule (atDepth c d) ≡ verdict Confirmed → judgeRule (atDepth c other) ≡ verdict Refuted → ⊥
   -- R46, R47 of the bytes that a batch writes
-  pub byte-kept : (claims others : List ℕ) (i k : ℕ) (v : Verdict) (other : ℕ) → Again claims i others k other → Settled v
+  pub byte-kept : (claims others : List ℕ) (i k : ℕ) (v : Verdict) (other : ℕ) → Again claims i others k other → Decided v
       → claimAt twenty claims i .depth ≤ other → other ≤ depths
       → answerAt twenty claims i ≡ verdictNumber v → answerAt twenty others k ≡ verdictNumber v
   pub bytes-never-both : (claims others : List ℕ) (i k other : ℕ) → Again claims i others k other

@@ -35,6 +35,10 @@ use Rattle.proposal.specs.Certify.{lowAt, highAt, certifies, certificate, width
 use Rattle.proposal.specs.Propose.{concluded}
 use Rattle.units.specs.Units.{belowZero, product, unitsWith, codedEstimate}
 use Rattle.units.specs.Exact.{radian, Value, InUnits, Rounded}
+use Rattle.judge.specs.Verdict.{verdictNumber}
+use Rattle.judge.specs.Judge.{claimOf, verdict, judgeRule}
+use Rattle.judge.specs.Settle.{settleRule}
+use Rattle.judge.specs.declared.Verdict.the-variants.{Undecided}
 use Rattle.claims.specs.Form.{twenty}
 use Rattle.claims.specs.Record.{answerAt}
 use Rattle.claims.specs.Batch.{upTo}
@@ -111,6 +115,24 @@ pub record Estimates : Type 0 where
   -- R41: minus zero, by its bits
   pub minus-zero : codedEstimate (ofBits binary64 0x8000000000000000) ≡ unitsWith (number done) (record { floor = 0; ceiling = 0 })
 
+pub record Settles : Type 0 where
+  -- R62: code and verdict are the judge's at depth 5
+  pub at-last : (g : Given) (x : Float) (n : ℕ)
+      → judgeRule (claimOf g x n depths) ≡ record { code = settleRule g x n .code; verdict = settleRule g x n .verdict }
+  -- R62: the depth is one of 1 to 5
+  pub some : (g : Given) (x : Float) (n : ℕ) → settleRule g x n .code ≡ number done → 1 ≤ settleRule g x n .depth
+  pub few : (g : Given) (x : Float) (n : ℕ) → settleRule g x n .code ≡ number done → settleRule g x n .depth ≤ depths
+  -- R62: no lesser depth decides
+  pub lesser : (g : Given) (x : Float) (n : ℕ) → settleRule g x n .code ≡ number done
+      → (d : ℕ) → 1 ≤ d → d < settleRule g x n .depth → judgeRule (claimOf g x n d) ≡ verdict Undecided
+  -- R62: from that depth on every depth has the verdict that is answered
+  pub from : (g : Given) (x : Float) (n : ℕ) → settleRule g x n .code ≡ number done
+      → (d : ℕ) → settleRule g x n .depth ≤ d → d ≤ depths
+      → judgeRule (claimOf g x n d) ≡ record { code = number done; verdict = settleRule g x n .verdict }
+  -- R62: where none decides it is 5
+  pub undecided : (g : Given) (x : Float) (n : ℕ) → settleRule g x n .code ≡ number done
+      → settleRule g x n .verdict ≡ verdictNumber Undecided → settleRule g x n .depth ≡ depths
+
 pub record Mirrored : Type 0 where
   -- R59: the answers to -M are the mirror of those to M, whatever M and A, or M and e
   pub on-grid : (m a : ℕ) → Mirrors (grid (negsuc m) a) (grid (pos (suc m)) a)
@@ -145,6 +167,7 @@ pub record Further : Type 0 where
   pub searches : Searches
   pub proposals : Proposals
   pub estimates : Estimates
+  pub settles : Settles
   pub mirrored : Mirrored
   pub doubles : Doubles
   pub program : Program

@@ -6,6 +6,7 @@ use Prim.Native.Nat.{ℕ, _/_, _≤_, _<_}
 use lib.IntN.{ℤ, natAbs}
 use lib.Ieee.{Float}
 use lib.ListN.{length, getD}
+use Rattle.grid.specs.Grid.{depths}
 use Rattle.grid.specs.Codes.{number, done}
 use Rattle.grid.specs.Make.{angleWith, codedAngle, codedSigned, eccentricityWith, codedEccentricity, depthWith, codedDepth}
 use Rattle.series.specs.Sine.{Lo, Hi}
@@ -16,7 +17,8 @@ use Rattle.ends.specs.Entry.{flagged, endOf, lowerRule, upperRule}
 use Rattle.enclosure.specs.Enclosure.{enclosed, enclosureRule}
 use Rattle.proposal.specs.Propose.{proposed, mirrorProposal, proposalRule}
 use Rattle.judge.specs.Verdict.{verdictNumber}
-use Rattle.judge.specs.Judge.{Claim, caseAt, caseVerdict, verdict, judgeRule}
+use Rattle.judge.specs.Judge.{Claim, claimOf, caseAt, caseVerdict, verdict, judgeRule}
+use Rattle.judge.specs.Settle.{settledBy, settleRule}
 use Rattle.claims.specs.Form.{twenty}
 use Rattle.claims.specs.Record.{claimAt, answerAt}
 use Rattle.claims.specs.AnswerByte.{AnswerByte}
@@ -43,6 +45,9 @@ pub record Rules : Type 0 where
   pub propose : (g : Given) → Gives (λ r. r .code) (proposalRule g) (mirrorProposal (mirroredOf g) (proposed (cellOf g)))
   -- R48
   pub judge : (c : Claim) → Gives (λ r. r .code) (judgeRule c) (verdict (caseVerdict (caseAt c)))
+  -- R62
+  pub settle : (g : Given) (x : Float) (n : ℕ)
+      → Gives (λ r. r .code) (settleRule g x n) (settledBy (caseAt (claimOf g x n depths)))
   -- R51
   pub count : (claims answers : List ℕ)
       → Gives (λ r. r .code) (batchOf claims answers) (batchWith (number done) (length claims / twenty .width))

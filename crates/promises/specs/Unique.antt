@@ -39,7 +39,9 @@ use Rattle.units.specs.Units.{mirrorDouble, codedUnits}
 use Rattle.units.specs.declared.CodedUnits.{CodedUnits}
 use Rattle.judge.specs.Verdict.{verdictNumber}
 use Rattle.judge.specs.Judge.{Claim, judgeRule}
+use Rattle.judge.specs.Settle.{settleRule}
 use Rattle.judge.specs.declared.Judged.{Judged}
+use Rattle.judge.specs.declared.Settled.{Settled}
 use Rattle.judge.specs.declared.Verdict.{Verdict}
 use Rattle.claims.specs.Form.{twenty}
 use Rattle.claims.specs.Batch.{batchRule, answersAfter}
@@ -70,6 +72,7 @@ pub record Unique : Type 0 where
   pub enclose : (g : Given) (depth : ℕ) → OneResult (λ (r : Enclosure). r ≡ enclosureRule g depth)
   pub propose : (g : Given) → OneResult (λ (r : Proposal). r ≡ proposalRule g)
   pub judge : (claim : Claim) → OneResult (λ (r : Judged). r ≡ judgeRule claim)
+  pub settle : (g : Given) (estimate : Float) (n : ℕ) → OneResult (λ (r : Settled). r ≡ settleRule g estimate n)
   pub judge-claims : (claims before : List ℕ) → OneResult (BatchAllows claims before)
   -- the checked constructors, and a double in units
   pub angle : (units : ℕ) → OneResult (λ (r : CodedAngle). r ≡ codedAngle units)
