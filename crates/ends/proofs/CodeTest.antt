@@ -75,10 +75,6 @@ settled true false other r e stays never = absurd (passed false (sym e))
 settled false most true r e stays never = absurd (passed false (sym e))
 settled false most false r e stays never = never refl
 
-unsettled : (least most other : Bool) → cond least most (not other) ≡ false → (least && most) ≡ false
-unsettled true most other e = e
-unsettled false most other e = refl
-
 -- the tests of one depth
 module _ (upper : Bool) (least most : Corner) (w : Walk) where
   abbrev leastPasses : Bool
@@ -106,9 +102,6 @@ module _ (upper : Bool) (least most : Corner) (w : Walk) where
 
   now-settled : (r : Bool) → now .settles ≡ true → (true ≡ now .accepts → true ≡ r) → (otherPasses ≡ false → false ≡ r) → now .accepts ≡ r
   now-settled r = settled leastPasses mostPasses otherPasses r
-
-  pub now-unsettled : now .settles ≡ false → now .accepts ≡ false
-  now-unsettled = unsettled leastPasses mostPasses otherPasses
 
 module _ (X : ℕ) (x : X ≤ T-units) (w : Walk) (n : ℕ) (at : w ≡ walk sine X (suc n)) (few : suc n ≤ depths) where
   in-bounds : (upper : Bool) → InBounds (boundOf upper X (suc n))
@@ -153,7 +146,7 @@ module _ (X : ℕ) (x : X ≤ T-units) (w : Walk) (n : ℕ) (at : w ≡ walk sin
         subst T f (both-parts (gridBy upper (orbitAt m (a .down)) X z) (gridBy upper (orbitAt m (a .up)) X z) (subst T (sym (both-is upper m a X z)) h) .0))
 
     -- what settles is the answer at every greater depth
-    pub settles-on : (upper : Bool) → atDepth upper least most w .settles ≡ true
+    settles-on : (upper : Bool) → atDepth upper least most w .settles ≡ true
         → (d : ℕ) → suc n ≤ d → d ≤ depths → atDepth upper least most w .accepts ≡ endAt upper (oneMean m a) d X
     settles-on upper e d k j =
         let c = oneMean m a in
@@ -162,27 +155,31 @@ module _ (X : ℕ) (x : X ≤ T-units) (w : Walk) (n : ℕ) (at : w ≡ walk sin
         (λ f. other-test upper f d j)
 
     -- the first depth that accepts is the least, which every greater depth reports
-    pub reports : (upper : Bool) → atDepth upper least most w .settles ≡ true → atDepth upper least most w .accepts ≡ true
-        → ((l : ℕ) → 1 ≤ l → l ≤ n → T (not (endAt upper (oneMean m a) l X)))
-        → (d : ℕ) → suc n ≤ d → d ≤ depths → leastDepth (λ l. endAt upper (oneMean m a) l X) d ≡ suc n
-    reports upper e t before d k j =
+    pub reports : (upper : Bool) → atDepth upper least most w .accepts ≡ true → ((l : ℕ) → 1 ≤ l → l ≤ n → T (not (endAt upper (oneMean m a) l X)))
+        → (d : ℕ) → suc n ≤ d → leastDepth (λ l. endAt upper (oneMean m a) l X) d ≡ suc n
+    reports upper t before d k =
+        let here = passed (endAt upper (oneMean m a) (suc n) X) (sym t ∙ own-test upper) in
         found (λ l. endAt upper (oneMean m a) l X) d (suc n) (record {
           some = omega arith;
           few = k;
-          here = passed (endAt upper (oneMean m a) (suc n) X) (sym t ∙ own-test upper);
-          last = passed (endAt upper (oneMean m a) d X) (sym t ∙ settles-on upper e d k j);
+          here = here;
+          last = deeper upper (oneMean m a) X k here;
           before = λ l s f. before l s (omega arith);
         })
 
-    -- what doesn't settle doesn't accept
-    pub goes-on : (upper : Bool) → atDepth upper least most w .settles ≡ false → false ≡ endAt upper (oneMean m a) (suc n) X
-    goes-on upper e = sym (now-unsettled upper least most w e) ∙ own-test upper
+    module _ (upper : Bool) (e : atDepth upper least most w .accepts ≡ false) where
+      -- what isn't accepted is accepted at no greater depth either, where the tests settle it
+      pub ruled-out : atDepth upper least most w .settles ≡ true → (d : ℕ) → suc n ≤ d → d ≤ depths → endAt upper (oneMean m a) d X ≡ false
+      ruled-out t d k j = sym (settles-on upper t d k j) ∙ e
 
-    -- nor does any greater depth accept it, where the terms are spent
-    pub stops-on : (upper : Bool) → atDepth upper least most w .settles ≡ false → spentAt w ≡ true
-        → (d : ℕ) → suc n ≤ d → false ≡ endAt upper (oneMean m a) d X
-    stops-on upper e t d k =
-        goes-on upper e ∙ sym (spent-alike upper (oneMean m a) X (spent-walk sine w X (suc n) at t) (omega arith) d k)
+      -- where this is the last depth
+      pub refused-last : (d : ℕ) → suc n ≡ d → endAt upper (oneMean m a) d X ≡ false
+      refused-last d h = ap (λ (l : ℕ). endAt upper (oneMean m a) l X) (sym h) ∙ sym (own-test upper) ∙ e
+
+      -- and where the terms are spent
+      pub refused-spent : spentAt w ≡ true → (d : ℕ) → suc n ≤ d → endAt upper (oneMean m a) d X ≡ false
+      refused-spent t d k =
+          spent-alike upper (oneMean m a) X (spent-walk sine w X (suc n) at t) (omega arith) d k ∙ refused-last (suc n) refl
 
 -- where the walk's last depth didn't accept, no depth up to it does
 pub none-before : (X : ℕ) → X ≤ T-units → (n : ℕ) → n ≤ depths → (v : Walk) → v ≡ walk sine X n → (m : ℕ) (a : Span) (upper : Bool)
