@@ -15,14 +15,14 @@ static uint32_t by_enclosure(struct stripeawn_enclosure e, double estimate,
     return x >= upper - n && x <= lower + n ? 16 : 18;
 }
 
-struct settled {
+struct enclosed {
     struct given given;
     double x; /* estimate, units */
     uint32_t n, depth, verdict;
 };
 
 /* The judge is Undecided, and the enclosure says the verdict given here. */
-static const struct settled settled[] = {
+static const struct enclosed enclosed[] = {
     { { 0, 0, ONE }, 0, 1, 5, 16 },
     { { 0, 0, ONE }, 0.25, 1, 5, 16 },
     { { 0, 0, ONE }, 524288, 1000, 5, 17 },
@@ -47,40 +47,40 @@ static const struct settled settled[] = {
     { { 1, 1e-9, 1.0 }, 487779.5, 1000, 5, 18 }, /* amid 0 to 952744 */
 };
 
-static void settled_is(struct settled s)
+static void enclosed_is(struct enclosed e)
 {
-    double estimate = s.x * STRIPEAWN_UNIT;
-    uint32_t got = by_enclosure(enclosure_of(s.given, s.depth), estimate,
-                                s.n);
+    double estimate = e.x * STRIPEAWN_UNIT;
+    uint32_t got = by_enclosure(enclosure_of(e.given, e.depth), estimate,
+                                e.n);
 
-    given_verdict_is(HERE, s.given, estimate, s.n, s.depth, 0, 18);
-    check(HERE, got == s.verdict, "m=%.17g x=%f: the enclosure says %lu, "
-          "wanted %lu", s.given.m, s.x, (unsigned long)got,
-          (unsigned long)s.verdict);
+    given_verdict_is(HERE, e.given, estimate, e.n, e.depth, 0, 18);
+    check(HERE, got == e.verdict, "m=%.17g x=%f: the enclosure says %lu, "
+          "wanted %lu", e.given.m, e.x, (unsigned long)got,
+          (unsigned long)e.verdict);
 }
 
 /* A row and its mirror, which M = 0 has none of. */
-static void settled_both(struct settled s)
+static void enclosed_both(struct enclosed e)
 {
-    settled_is(s);
-    s.given = mirror_of(s.given);
-    s.x = -s.x;
-    if (s.given.m < 0)
-        settled_is(s);
+    enclosed_is(e);
+    e.given = mirror_of(e.given);
+    e.x = -e.x;
+    if (e.given.m < 0)
+        enclosed_is(e);
 }
 
 /* Each row, and those on the grid also as doubles. */
-static void test_settled(void)
+static void test_enclosed(void)
 {
     size_t i;
 
-    for (i = 0; i < COUNT(settled); i++) {
-        struct settled s = settled[i];
+    for (i = 0; i < COUNT(enclosed); i++) {
+        struct enclosed e = enclosed[i];
 
-        settled_both(s);
-        s.given = as_doubles(s.given);
-        if (!settled[i].given.is_double)
-            settled_both(s);
+        enclosed_both(e);
+        e.given = as_doubles(e.given);
+        if (!enclosed[i].given.is_double)
+            enclosed_both(e);
     }
 }
 
@@ -136,7 +136,7 @@ static void test_last_bit(void)
 
 void test_undecided(void)
 {
-    test_settled();
+    test_enclosed();
     test_no_contradiction();
     test_last_bit();
 }
