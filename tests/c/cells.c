@@ -149,6 +149,10 @@ static void test_stated_verdicts(void)
     given_verdict_is(HERE, g, units(169340791), 11, 5, 0, 18);
     given_verdict_is(HERE, g, units(169340746), 11, 5, 0, 17);
     given_verdict_is(HERE, g, units(169340747), 11, 5, 0, 18);
+    given_settled_is(HERE, g, units(169340769), 11, 0, 16, 3);
+    given_settled_is(HERE, g, units(169340769), 10, 0, 18, 5);
+    given_settled_is(HERE, g, units(169340792), 11, 0, 17, 2);
+    given_settled_is(HERE, g, units(169340746), 11, 0, 17, 3);
 }
 
 void test_cells(void)

@@ -117,9 +117,54 @@ void given_verdict_is(struct place at, struct given g, double estimate,
           " %" PRIu32,
           way(g), g.m, g.e, estimate, n, depth, got.code, got.verdict, code,
           verdict);
+    settled_agrees(at, g, estimate, n, depth, got);
     if (g.m > 0)
         given_verdict_is(at, mirror_of(g), -estimate, n, depth, code,
                          verdict);
+}
+
+void given_settled_is(struct place at, struct given g, double estimate,
+                      uint32_t n, uint32_t code, uint32_t verdict,
+                      uint32_t depth)
+{
+    struct stripeawn_settled got = settled_of(g, estimate, n);
+
+    check(at,
+          got.code == code && got.verdict == verdict && got.depth == depth,
+          "settle %s m=%.17g e=%.17g estimate=%a n=%" PRIu32 ": code %" PRIu32
+          " verdict %" PRIu32 " depth %" PRIu32 ", wanted %" PRIu32
+          " %" PRIu32 " %" PRIu32,
+          way(g), g.m, g.e, estimate, n, got.code, got.verdict, got.depth,
+          code, verdict, depth);
+    if (g.m > 0)
+        given_settled_is(at, mirror_of(g), -estimate, n, code, verdict,
+                         depth);
+}
+
+/* A depth out of limits, which gets code 3, comes after M and e only. */
+static int agree(struct stripeawn_settled s, struct stripeawn_verdict v,
+                 uint32_t depth)
+{
+    if (v.code == 3)
+        return s.code == 0 || s.code == 4 || s.code == 5;
+    if (v.code != 0)
+        return s.code == v.code && s.verdict == 0 && s.depth == 0;
+    return s.code == 0 && s.depth >= 1 && s.depth <= 5 &&
+           (s.verdict != 18 || s.depth == 5) &&
+           v.verdict == (depth < s.depth ? 18 : s.verdict);
+}
+
+void settled_agrees(struct place at, struct given g, double estimate,
+                    uint32_t n, uint32_t depth, struct stripeawn_verdict v)
+{
+    struct stripeawn_settled s = settled_of(g, estimate, n);
+
+    check(at, agree(s, v, depth),
+          "%s m=%.17g e=%.17g estimate=%a n=%" PRIu32 ": settle has code %"
+          PRIu32 " verdict %" PRIu32 " depth %" PRIu32 ", the judge at depth %"
+          PRIu32 " code %" PRIu32 " verdict %" PRIu32,
+          way(g), g.m, g.e, estimate, n, s.code, s.verdict, s.depth, depth,
+          v.code, v.verdict);
 }
 
 static void grid_end_is(struct place at, int upper, int32_t x,
@@ -167,6 +212,15 @@ void verdict_is(struct place at, int32_t m, uint32_t a, double estimate,
 
     given_verdict_is(at, g, estimate, n, depth, code, verdict);
     given_verdict_is(at, as_doubles(g), estimate, n, depth, code, verdict);
+}
+
+void settled_is(struct place at, int32_t m, uint32_t a, double estimate,
+                uint32_t n, uint32_t code, uint32_t verdict, uint32_t depth)
+{
+    struct given g = grid(m, a);
+
+    given_settled_is(at, g, estimate, n, code, verdict, depth);
+    given_settled_is(at, as_doubles(g), estimate, n, code, verdict, depth);
 }
 
 double from_bits(uint64_t bits)

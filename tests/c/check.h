@@ -48,7 +48,8 @@ int check_report(void);
 
 /*
 ** One call each, with every number that it must return. Where M is above 0,
-** the mirrored call at -M must return the mirror of these numbers.
+** the mirrored call at -M must return the mirror of these numbers. Whatever
+** the judge says of a claim, settled_agrees is checked too.
 */
 void sine_is(struct place at, uint32_t x, uint32_t depth, uint32_t code,
              int64_t lo, int64_t hi);
@@ -61,6 +62,16 @@ void given_proposal_is(struct place at, struct given g,
 void given_verdict_is(struct place at, struct given g, double estimate,
                       uint32_t n, uint32_t depth, uint32_t code,
                       uint32_t verdict);
+void given_settled_is(struct place at, struct given g, double estimate,
+                      uint32_t n, uint32_t code, uint32_t verdict,
+                      uint32_t depth);
+
+/*
+** What is said of a claim without a depth goes with the judge's answer v at
+** this one: its verdict from the reported depth on, and below it Undecided.
+*/
+void settled_agrees(struct place at, struct given g, double estimate,
+                    uint32_t n, uint32_t depth, struct stripeawn_verdict v);
 
 /*
 ** The same for M and A on the grid. The entry for doubles must return these
@@ -76,6 +87,8 @@ void proposal_is(struct place at, int32_t m, uint32_t a,
                  struct stripeawn_proposal wanted);
 void verdict_is(struct place at, int32_t m, uint32_t a, double estimate,
                 uint32_t n, uint32_t depth, uint32_t code, uint32_t verdict);
+void settled_is(struct place at, int32_t m, uint32_t a, double estimate,
+                uint32_t n, uint32_t code, uint32_t verdict, uint32_t depth);
 
 /* The double with these bits, and the bits of a double. */
 double from_bits(uint64_t bits);
@@ -98,6 +111,8 @@ void test_enclose(void);
 void test_propose(void);
 void test_judge(void);
 void test_undecided(void);
+void test_settle(void);
+void test_settle_limits(void);
 void test_mirror(void);
 void test_estimates(void);
 void test_order(void);

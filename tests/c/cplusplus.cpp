@@ -30,6 +30,7 @@ static void answered()
     stripeawn_enclosure e = stripeawn_enclose(7, 0, 5);
     stripeawn_proposal p = stripeawn_propose(1, STRIPEAWN_A_MAX);
     stripeawn_verdict v = stripeawn_judge(7, 0, 7 * STRIPEAWN_UNIT, 0, 5);
+    stripeawn_settled d = stripeawn_settle(7, 0, 7 * STRIPEAWN_UNIT, 0);
 
     check("sine", s.code, 0, s.lo == 0 && s.hi == 2);
     check("lower_end", l.code, 0, l.accepted == 1);
@@ -38,6 +39,8 @@ static void answered()
     check("propose", p.code, 0, p.angle == 1048514 && p.e_sin == 1048514 &&
                                     p.e_cos == 268433424 && p.j == 19);
     check("judge", v.code, 0, v.verdict == STRIPEAWN_CONFIRMED);
+    check("settle", d.code, 0, d.verdict == STRIPEAWN_CONFIRMED &&
+                                   d.depth == 1);
 }
 
 // The entries that take M, answered for M below 0.
@@ -48,6 +51,7 @@ static void mirrored()
     stripeawn_enclosure e = stripeawn_enclose(-1, STRIPEAWN_A_MAX, 5);
     stripeawn_proposal p = stripeawn_propose(-1, STRIPEAWN_A_MAX);
     stripeawn_verdict v = stripeawn_judge(-7, 0, -7 * STRIPEAWN_UNIT, 0, 5);
+    stripeawn_settled d = stripeawn_settle(-7, 0, -9 * STRIPEAWN_UNIT, 1);
 
     check("lower_end, M < 0", l.code, 0, l.accepted == 0);
     check("upper_end, M < 0", u.code, 0, u.accepted == 1);
@@ -57,6 +61,8 @@ static void mirrored()
                                            p.e_sin == -1048514 &&
                                            p.e_cos == 268433424 && p.j == 19);
     check("judge, M < 0", v.code, 0, v.verdict == STRIPEAWN_CONFIRMED);
+    check("settle, M < 0", d.code, 0, d.verdict == STRIPEAWN_REFUTED &&
+                                          d.depth == 1);
 }
 
 // The same entries, refused.
@@ -69,6 +75,7 @@ static void refused()
     stripeawn_enclosure e = stripeawn_enclose(m, STRIPEAWN_A_MAX, 1);
     stripeawn_proposal p = stripeawn_propose(m, STRIPEAWN_A_MAX + 1);
     stripeawn_verdict v = stripeawn_judge(m, 0, -1.0, 0, 5);
+    stripeawn_settled d = stripeawn_settle(m, 0, -1.0, 0);
     stripeawn_end opposing = stripeawn_lower_end(1, -m, 0, 1);
     stripeawn_enclosure least = stripeawn_enclose(INT32_MIN, 0, 1);
 
@@ -79,6 +86,7 @@ static void refused()
     check("bad propose", p.code, 2, p.angle == 0 && p.e_sin == 0 &&
                                         p.e_cos == 0 && p.j == 0);
     check("bad judge", v.code, 4, v.verdict == 0);
+    check("bad settle", d.code, 4, d.verdict == 0 && d.depth == 0);
     check("opposing x", opposing.code, 10, opposing.accepted == 0);
     check("least M", least.code, 1, least.lower == 0 && least.upper == 0);
 }
@@ -93,6 +101,8 @@ static void doubles()
     stripeawn_proposal p = stripeawn_propose_double(-0.1, 0.9);
     stripeawn_verdict v =
         stripeawn_judge_double(0.1, 0.9, 169340769 * STRIPEAWN_UNIT, 11, 5);
+    stripeawn_settled d =
+        stripeawn_settle_double(0.1, 0.9, 169340769 * STRIPEAWN_UNIT, 11);
 
     check("lower_end_double", l.code, 0, l.accepted == 1);
     check("upper_end_double", u.code, 0, u.accepted == 1);
@@ -104,6 +114,8 @@ static void doubles()
           p.angle == -169340770 && p.e_sin == -142497227 &&
               p.e_cos == 195092774 && p.j == 4);
     check("judge_double", v.code, 0, v.verdict == STRIPEAWN_CONFIRMED);
+    check("settle_double", d.code, 0, d.verdict == STRIPEAWN_CONFIRMED &&
+                                          d.depth == 3);
 }
 
 static void refused_doubles()
@@ -117,6 +129,7 @@ static void refused_doubles()
         stripeawn_enclose_double(3.14159265358979323846, 1.0, 5);
     stripeawn_proposal p = stripeawn_propose_double(top, nan);
     stripeawn_verdict v = stripeawn_judge_double(top, 1.0, nan, 0, 5);
+    stripeawn_settled d = stripeawn_settle_double(top, nan, nan, 0);
 
     check("bad lower_end_double", l.code, 10, l.accepted == 0);
     check("bad upper_end_double", u.code, 1, u.accepted == 0);
@@ -125,6 +138,7 @@ static void refused_doubles()
     check("bad propose_double", p.code, 2, p.angle == 0 && p.e_sin == 0 &&
                                                p.e_cos == 0 && p.j == 0);
     check("bad judge_double", v.code, 4, v.verdict == 0);
+    check("bad settle_double", d.code, 2, d.verdict == 0 && d.depth == 0);
 }
 
 // A batch over whole vectors; the data of an empty one may be NULL.

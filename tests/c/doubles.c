@@ -24,6 +24,7 @@ static void refused(struct place at, double m, double e, uint32_t code)
     given_enclosure_is(at, g, 5, code, 0, 0);
     given_proposal_is(at, g, none);
     given_verdict_is(at, g, 0.0, 65535, 5, code, 0);
+    given_settled_is(at, g, 0.0, 65535, code, 0, 0);
 }
 
 /* Every entry answers with code 0. */
@@ -35,7 +36,8 @@ static void taken(struct place at, double m, double e)
           end_of(LOWER, 0, g, 5).code == 0 &&
               end_of(UPPER, 0, g, 5).code == 0 &&
               enclosure_of(g, 5).code == 0 && proposal_of(g).code == 0 &&
-              verdict_of(g, 0.0, 0, 5).code == 0,
+              verdict_of(g, 0.0, 0, 5).code == 0 &&
+              settled_of(g, 0.0, 0).code == 0,
           "m=%a e=%a is refused", m, e);
     if (m > 0)
         taken(at, -m, e);

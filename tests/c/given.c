@@ -30,6 +30,12 @@ struct given mirror_of(struct given g)
     return g;
 }
 
+struct given brought_to_grid(struct given g)
+{
+    return grid((int32_t)floor(g.m * ONE + 0.5),
+                (uint32_t)(g.e * (ONE + 1)));
+}
+
 struct stripeawn_end end_of(int upper, int32_t x, struct given g,
                             uint32_t depth)
 {
@@ -60,6 +66,14 @@ struct stripeawn_verdict verdict_of(struct given g, double estimate,
                ? stripeawn_judge_double(g.m, g.e, estimate, n, depth)
                : stripeawn_judge((int32_t)g.m, (uint32_t)g.e, estimate, n,
                                  depth);
+}
+
+struct stripeawn_settled settled_of(struct given g, double estimate,
+                                    uint32_t n)
+{
+    return g.is_double
+               ? stripeawn_settle_double(g.m, g.e, estimate, n)
+               : stripeawn_settle((int32_t)g.m, (uint32_t)g.e, estimate, n);
 }
 
 /* The high half of the state is the better one, and is mixed into the low. */

@@ -20,6 +20,9 @@ struct given doubles(double m, double e);
 struct given as_doubles(struct given g);
 struct given mirror_of(struct given g);
 
+/* Doubles within their limits, brought to the grid up to H and to 2^28. */
+struct given brought_to_grid(struct given g);
+
 /* The entries. */
 enum { LOWER, UPPER };
 
@@ -29,6 +32,8 @@ struct stripeawn_enclosure enclosure_of(struct given g, uint32_t depth);
 struct stripeawn_proposal proposal_of(struct given g);
 struct stripeawn_verdict verdict_of(struct given g, double estimate,
                                     uint32_t n, uint32_t depth);
+struct stripeawn_settled settled_of(struct given g, double estimate,
+                                    uint32_t n);
 
 /* The next of a row of pseudo-random numbers. */
 uint64_t random_bits(uint64_t *state);

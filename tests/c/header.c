@@ -156,6 +156,9 @@ static void test_layout(void)
     named(HERE, offsetof(struct stripeawn_proposal, j), 24);
     named(HERE, sizeof(struct stripeawn_verdict), 8);
     named(HERE, offsetof(struct stripeawn_verdict, verdict), 4);
+    named(HERE, sizeof(struct stripeawn_settled), 12);
+    named(HERE, offsetof(struct stripeawn_settled, verdict), 4);
+    named(HERE, offsetof(struct stripeawn_settled, depth), 8);
     named(HERE, sizeof(struct stripeawn_batch), 16);
     named(HERE, offsetof(struct stripeawn_batch, count), 8);
 }
@@ -172,12 +175,16 @@ static void test_double_entries(void)
     struct stripeawn_verdict (*const judge)(double, double, double, uint32_t,
                                             uint32_t) =
         stripeawn_judge_double;
+    struct stripeawn_settled (*const settle)(double, double, double,
+                                             uint32_t) =
+        stripeawn_settle_double;
 
     named(HERE, ends[LOWER](1, units(2), 0.0, 5).accepted, 1);
     named(HERE, ends[UPPER](1, units(2), 0.0, 5).accepted, 0);
     named(HERE, enclose(units(2), 0.0, 5).upper, 2);
     named(HERE, propose(1.0, 2.0).code, 2);
     named(HERE, judge(units(2), 0.0, units(3), 1, 5).verdict, 16);
+    named(HERE, settle(units(2), 0.0, units(3), 1).depth, 1);
 }
 
 /* H units as the header writes them out, and pi, which is above them. */

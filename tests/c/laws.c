@@ -1,13 +1,14 @@
 /*
 ** laws.c: what holds of every M and e as doubles, on many pseudo-random ones:
 ** on the grid they get the grid's answers; an end is accepted where both
-** corners of the cell accept it; a verdict stays at greater depths.
+** corners of the cell accept it; a verdict stays at greater depths, and is
+** the one that is given without a depth.
 */
 #include <math.h>
 
 #include "check.h"
 
-/* All five entries, near the ends of the enclosure: grid and doubles. */
+/* All six entries, near the ends of the enclosure: grid and doubles. */
 static void same_on_grid(struct given g, uint32_t depth, uint32_t n)
 {
     struct stripeawn_enclosure e = enclosure_of(g, depth);
@@ -15,12 +16,14 @@ static void same_on_grid(struct given g, uint32_t depth, uint32_t n)
     int32_t x[] = { e.lower, e.lower + 1, e.upper, e.upper - 1, p.angle };
     double estimate = units(p.angle) + units(1) / 3 * (n % 3);
     struct stripeawn_verdict v = verdict_of(g, estimate, n, depth);
+    struct stripeawn_settled s = settled_of(g, estimate, n);
     struct given d = as_doubles(g);
     size_t i;
 
     given_enclosure_is(HERE, d, depth, e.code, e.lower, e.upper);
     given_proposal_is(HERE, d, p);
     given_verdict_is(HERE, d, estimate, n, depth, v.code, v.verdict);
+    given_settled_is(HERE, d, estimate, n, s.code, s.verdict, s.depth);
     for (i = 0; i < COUNT(x); i++) {
         struct stripeawn_end lower = end_of(LOWER, x[i], g, depth);
         struct stripeawn_end upper = end_of(UPPER, x[i], g, depth);
@@ -30,19 +33,17 @@ static void same_on_grid(struct given g, uint32_t depth, uint32_t n)
     }
 }
 
-/* Random doubles brought to the grid: up to H and to 2^28, both included. */
+/* Random doubles, brought to the grid. */
 static void test_on_grid(void)
 {
     uint64_t random = 1;
     uint32_t i;
 
     for (i = 0; i < 30000; i++) {
-        struct given d = random_doubles(&random);
-        int32_t m = (int32_t)floor(d.m * ONE + 0.5);
-        uint32_t a = (uint32_t)(d.e * (ONE + 1));
+        struct given g = brought_to_grid(random_doubles(&random));
         uint32_t n = random_bits(&random) >> (48 + i % 16);
 
-        same_on_grid(grid(m, a), i % 5 + 1, n);
+        same_on_grid(g, i % 5 + 1, n);
     }
 }
 
@@ -120,6 +121,7 @@ static void kept(struct given g, double estimate, uint32_t n)
               "m=%.17g e=%.17g estimate=%a n=%lu: %lu at depth %lu, then %lu",
               g.m, g.e, estimate, (unsigned long)n, (unsigned long)last,
               (unsigned long)depth - 1, (unsigned long)v.verdict);
+        settled_agrees(HERE, g, estimate, n, depth, v);
         settled[depth] += v.code == 0 && last == 18 && v.verdict != 18;
         last = v.verdict;
     }

@@ -14,6 +14,8 @@ int main(void)
     test_propose();
     test_judge();
     test_undecided();
+    test_settle();
+    test_settle_limits();
     test_mirror();
     test_estimates();
     test_order();

@@ -99,6 +99,22 @@ static void test_stated_verdicts(void)
     verdict_is(HERE, -7, 0, units(7), 65535, 1, 4, 0);
 }
 
+/* Verdicts with the least depth that gives them. */
+static void test_stated_settled(void)
+{
+    settled_is(HERE, -42554808, ONE, units(-268493858), 60000, 0, 16, 2);
+    settled_is(HERE, -42554808, ONE, units(-268493859), 60000, 0, 16, 3);
+    settled_is(HERE, -700000000, ONE, units(-671391288), 1000, 0, 17, 1);
+    settled_is(HERE, -700000000, ONE, units(-671391289), 1000, 0, 17, 2);
+    settled_is(HERE, -H, ONE, units(-843314863), 10, 0, 16, 5);
+    settled_is(HERE, -H, ONE, units(-843314864), 10, 0, 18, 5);
+    settled_is(HERE, -H, ONE, units(-843314863), 0, 0, 17, 4);
+    settled_is(HERE, -H, ONE, units(-843314862), 0, 0, 17, 5);
+    settled_is(HERE, -1, ONE, units(-850000), 1000, 0, 18, 5);
+    settled_is(HERE, -7, 0, units(-9), 2, 0, 16, 1);
+    settled_is(HERE, -7, 0, units(7), 65535, 4, 0, 0);
+}
+
 /* The least and the greatest estimates beside M below 0 and M = 0. */
 static void test_limits_of_estimates(void)
 {
@@ -147,9 +163,12 @@ static void mirrored_record(double estimate, struct given g, uint32_t depth,
 static void mirrored_claim(double estimate, struct given g, uint32_t depth)
 {
     struct stripeawn_verdict v = verdict_of(g, estimate, 7, depth);
+    struct stripeawn_settled s = settled_of(g, estimate, 7);
 
     given_verdict_is(HERE, mirror_of(g), -estimate, 7, depth, v.code,
                      v.verdict);
+    given_settled_is(HERE, mirror_of(g), -estimate, 7, s.code, s.verdict,
+                     s.depth);
     if (!g.is_double)
         mirrored_record(estimate, g, depth, v);
 }
@@ -216,6 +235,7 @@ void test_mirror(void)
     test_stated_enclosures();
     test_stated_proposals();
     test_stated_verdicts();
+    test_stated_settled();
     test_limits_of_estimates();
     test_mirrored();
 }

@@ -45,6 +45,8 @@ static const uint64_t estimates[] = {
     0,
     1,                            /* the least above 0 */
     UINT64_C(0x3FF0000000000000), /* 1 */
+    UINT64_C(0x400921FB74000000), /* T units, and the next double */
+    UINT64_C(0x400921FB74000001),
     UINT64_C(0x4010000000000000), /* 4, which is above T units */
     UINT64_C(0x7FF0000000000000), /* infinity */
     UINT64_C(0x7FF8000000000000), /* NaN */
@@ -171,6 +173,34 @@ static void judge_order(struct posed p, struct value d, double estimate,
           (unsigned long)code);
 }
 
+/* The same without a depth: the codes are the judge's, and 3 is none. */
+static void settle_order(struct posed p, double estimate, struct value n)
+{
+    uint32_t codes[] = { p.code, estimate_code(estimate, p.given.m), n.code };
+    uint32_t code = first(codes, COUNT(codes));
+    struct stripeawn_settled got = settled_of(p.given, estimate, n.value);
+
+    check(HERE, got.code == code, "settle gives %lu, wanted %lu",
+          (unsigned long)got.code, (unsigned long)code);
+    check(HERE,
+          code == 0 ? got.verdict >= 16 && got.verdict <= 18 &&
+                          got.depth >= 1 && got.depth <= 5
+                    : got.verdict == 0 && got.depth == 0,
+          "settle gives verdict %lu and depth %lu with code %lu",
+          (unsigned long)got.verdict, (unsigned long)got.depth,
+          (unsigned long)code);
+}
+
+/* A claim, at every depth and without one. */
+static void claim_order(struct posed p, double estimate, struct value n)
+{
+    size_t d;
+
+    settle_order(p, estimate, n);
+    EACH(d, depths)
+        judge_order(p, depths[d], estimate, n);
+}
+
 static void posed_order(struct posed p)
 {
     size_t d, x, e, s, n;
@@ -180,10 +210,9 @@ static void posed_order(struct posed p)
         enclose_order(p, depths[d]);
         EACH(x, angles)
             ends_order(p, depths[d], angles[x]);
-        EACH(e, estimates) EACH(s, signs) EACH(n, tolerances)
-            judge_order(p, depths[d], from_bits(estimates[e] | signs[s]),
-                        tolerances[n]);
     }
+    EACH(e, estimates) EACH(s, signs) EACH(n, tolerances)
+        claim_order(p, from_bits(estimates[e] | signs[s]), tolerances[n]);
 }
 
 void test_way(struct way way)

@@ -52,6 +52,7 @@ static void not_confirmed(struct given g, double estimate, uint32_t n,
     check(HERE, got.code == 4 || got.verdict == 17 || got.verdict == 18,
           "m=%a e=%a n=%lu: %a is Confirmed", g.m, g.e, (unsigned long)n,
           estimate);
+    settled_agrees(HERE, g, estimate, n, depth, got);
 }
 
 /* The root is never Refuted, nor is it Confirmed n + 1 units away. */
@@ -64,6 +65,7 @@ static void judges_root(struct given g, double root, uint32_t n,
           "m=%a e=%a n=%lu: root %a has code %lu, verdict %lu", g.m, g.e,
           (unsigned long)n, root, (unsigned long)got.code,
           (unsigned long)got.verdict);
+    settled_agrees(HERE, g, root, n, depth, got);
     not_confirmed(g, root + STRIPEAWN_UNIT * (n + 1), n, depth);
     not_confirmed(g, root - STRIPEAWN_UNIT * (n + 1), n, depth);
 }

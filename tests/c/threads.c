@@ -14,7 +14,7 @@ enum { THREADS = 4, ORBITS = 200, STACK = 65536 };
 
 /* Sums of everything that one pass over the entries returns. */
 struct sums {
-    uint64_t ends, enclosures, proposals, verdicts;
+    uint64_t ends, enclosures, proposals, verdicts, settled;
 };
 
 struct totals {
@@ -27,6 +27,7 @@ static void add_given(struct sums *t, struct given g, uint32_t depth)
 {
     struct stripeawn_enclosure e = enclosure_of(g, depth);
     struct stripeawn_proposal p = proposal_of(g);
+    struct stripeawn_settled s = settled_of(g, units(p.angle), depth * 9);
 
     t->ends += end_of(LOWER, p.angle, g, depth).accepted * 3 +
                end_of(UPPER, p.angle, g, depth).accepted;
@@ -34,6 +35,7 @@ static void add_given(struct sums *t, struct given g, uint32_t depth)
     t->proposals += (uint64_t)p.angle + (uint64_t)p.e_sin * 3 +
                     (uint64_t)p.e_cos * 5 + p.j;
     t->verdicts += verdict_of(g, units(p.angle), depth * 9, depth).verdict;
+    t->settled += s.verdict * 6 + s.depth;
 }
 
 /* All entries; M and e as doubles are a third of a unit off the grid. */
@@ -54,7 +56,8 @@ static void add_orbit(struct totals *t, int32_t m, uint32_t a, uint32_t depth)
 
 static void *run(void *given)
 {
-    struct totals *t = given, none = { 0, 0, { 0, 0, 0, 0 }, { 0, 0, 0, 0 } };
+    struct totals *t = given;
+    static const struct totals none;
     uint32_t i, random = 1;
 
     *t = none;
@@ -70,7 +73,8 @@ static void *run(void *given)
 static int same_sums(struct sums s, struct sums t)
 {
     return s.ends == t.ends && s.enclosures == t.enclosures &&
-           s.proposals == t.proposals && s.verdicts == t.verdicts;
+           s.proposals == t.proposals && s.verdicts == t.verdicts &&
+           s.settled == t.settled;
 }
 
 static int same(const struct totals *s, const struct totals *t)
@@ -99,6 +103,10 @@ void test_threads(void)
           "batch and judge differ");
     check(HERE, alone.of_doubles.verdicts >= 16 * ORBITS,
           "not every orbit as doubles is judged");
+    check(HERE,
+          alone.on_grid.settled >= (16 * 6 + 1) * ORBITS &&
+              alone.of_doubles.settled >= (16 * 6 + 1) * ORBITS,
+          "not every orbit is settled");
     pthread_attr_init(&small);
     check(HERE, pthread_attr_setstacksize(&small, stack_size()) == 0,
           "no stack of %lu bytes", (unsigned long)stack_size());
