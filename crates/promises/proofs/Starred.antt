@@ -3,6 +3,7 @@ use mathlib.Core.Path.{refl}
 use Prim.Native.Nat.{ℕ, _≤_}
 use borrow.Author.Tests.{le-ltb}
 use lib.Ieee.{neg, ofBits}
+use Rattle.whole.specs.First.{firstFrom}
 use Rattle.series.specs.Terms.{l, u}
 use Rattle.series.specs.Bounds.{evens, odds, rawLow, rawHigh, greatestLow, leastHigh}
 use Rattle.series.specs.Entry.{sineRule}
@@ -13,6 +14,7 @@ use Rattle.enclosure.proofs.Encloses.{circle}
 use Rattle.units.specs.Units.{belowZero, offRange}
 use Rattle.judge.specs.Verdict.{confirmed, refuted, verdictOf}
 use Rattle.judge.specs.Judge.{judgeRule}
+use Rattle.judge.specs.Settle.{settledDepth, settleRule}
 use Rattle.little.specs.LittleEndian.{littleEndian}
 use Rattle.claims.specs.Record.{answerAt}
 use Rattle.claims.specs.Batch.{batchRule, upTo, answersAfter}
@@ -36,11 +38,13 @@ list =
     and refl and refl and refl and refl and refl and refl and refl and refl and refl and refl and refl and tt
 
 beside : AllHold others
-unfolding others l u evens odds rawLow rawHigh greatestLow leastHigh belowBy aboveBy halve turns foundLower foundUpper neg belowZero offRange ofBits verdictOf confirmed refuted judgeRule littleEndian answerAt batchRule upTo answersAfter
+unfolding others l u evens odds rawLow rawHigh greatestLow leastHigh belowBy aboveBy halve turns foundLower foundUpper neg belowZero offRange ofBits verdictOf confirmed refuted judgeRule firstFrom settledDepth settleRule littleEndian answerAt batchRule upTo answersAfter
 beside =
     (refl, refl) and (refl, refl) and (refl, refl) and (refl, refl) and (refl, refl) and (refl, refl)
     and (refl, refl) and (refl, refl) and (refl, refl) and (refl, refl) and (refl, refl) and (refl, refl) and (refl, refl) and (refl, refl)
-    and refl and refl and refl and refl and refl and refl and refl and refl and refl and refl and refl and refl and refl
+    and refl and refl and refl and refl and refl and refl and refl
+    and refl and refl and refl and refl and refl and refl and refl and refl and refl and refl
+    and refl and refl and refl and refl and refl and refl
     and (refl, refl) and (refl, refl) and (refl, refl) and (refl, refl) and (refl, refl) and (refl, refl) and (refl, refl)
     and (refl, refl) and (refl, refl) and (refl, refl) and (refl, refl) and (refl, refl)
     and (refl, refl) and (refl, refl) and (refl, refl) and (refl, refl) and refl and refl and refl and refl and refl

@@ -15,7 +15,8 @@ use Rattle.orbit.specs.Given.{Given, grid, doubles}
 use Rattle.ends.specs.Entry.{flagged, lowerRule, upperRule}
 use Rattle.enclosure.specs.Enclosure.{enclosureRule}
 use Rattle.units.specs.Units.{unitsWith, codedEstimate}
-use Rattle.judge.specs.Judge.{verdict, judgeRule}
+use Rattle.judge.specs.Judge.{claimOf, verdict, judgeRule}
+use Rattle.judge.specs.Settle.{settledAs, settleRule}
 use Rattle.judge.specs.declared.Judged.{Judged}
 use Rattle.judge.specs.declared.Verdict.{Verdict}
 use Rattle.judge.specs.declared.Verdict.the-variants.{Confirmed, Refuted, Undecided}
@@ -40,6 +41,8 @@ pub data Row : Type 0 where
   estimate-code : ℕ → Code → Row
   -- what is given, the estimate's bits, N, depth: the verdict
   judged : Given → ℕ → ℕ → ℕ → Verdict → Row
+  -- what is given, the estimate's bits, N: the verdict and the least depth that gives it
+  settled : Given → ℕ → ℕ → Verdict → ℕ → Row
   -- what is given, the estimate's bits: the judge's code, with N = 0 at depth 5
   judge-code : Given → ℕ → Code → Row
   -- claims and the answers buffer: the count, and the buffer after
@@ -54,7 +57,7 @@ abbrev pub bits : ℕ → ℕ → Given
 bits m e = doubles (ofBits binary64 m) (ofBits binary64 e)
 
 abbrev pub judge : Given → ℕ → ℕ → ℕ → Judged
-judge g x N d = judgeRule (record { given = g; estimate = ofBits binary64 x; n = N; depth = d })
+judge g x N d = judgeRule (claimOf g (ofBits binary64 x) N d)
 
 -- code 0, Lo and Hi
 abbrev pub Bounds : ℕ → ℕ → ℕ → ℕ → Type 0
@@ -71,6 +74,7 @@ Holds (estimate x f c) = codedEstimate (ofBits binary64 x) ≡ unitsWith (number
 Holds (code g X k) = (lowerRule X g 1 .code ≡ number k) × (upperRule X g 1 .code ≡ number k)
 Holds (estimate-code x k) = codedEstimate (ofBits binary64 x) .code ≡ number k
 Holds (judged g x N d v) = judge g x N d ≡ verdict v
+Holds (settled g x N v d) = settleRule g (ofBits binary64 x) N ≡ settledAs v d
 Holds (judge-code g x k) = judge g x 0 depths .code ≡ number k
 Holds (batch claims answers n after) =
     (batchRule twenty (length claims) (length answers) ≡ record { code = number done; count = n })
@@ -159,6 +163,19 @@ others =
     ∷ judged (grid (pos 0) one) 0x3f70000000000000 1000 5 Refuted
     ∷ judged (grid (pos 0) one) 0 0 5 Confirmed
     ∷ judged (grid (pos 0) one) 0 1 5 Undecided
+    -- the same with no depth
+    ∷ settled (grid (pos 0) one) 0x3f60000000000000 1000 Undecided 5
+    ∷ settled (grid (pos 0) one) 0x3f70000000000000 1000 Refuted 1
+    ∷ settled (grid (pos 0) one) 0 0 Confirmed 1
+    -- M = 700000000, e = 1: estimates of 671391288, 766786714, 771205547, 771224701 and 771224724 units, each of which another
+    -- depth is the first to refute; and 771226702 units; and at M = H 843314863 units
+    ∷ settled (grid (pos 700000000) one) 0x4004024f1c000000 1000 Refuted 1
+    ∷ settled (grid (pos 700000000) one) 0x4006da1e4d000000 1000 Refuted 2
+    ∷ settled (grid (pos 700000000) one) 0x4006fbd4d5800000 1000 Refuted 3
+    ∷ settled (grid (pos 700000000) one) 0x4006fbfa3e800000 1000 Refuted 4
+    ∷ settled (grid (pos 700000000) one) 0x4006fbfa4a000000 1000 Refuted 5
+    ∷ settled (grid (pos 700000000) one) 0x4006fbfe27000000 1000 Confirmed 4
+    ∷ settled (grid (pos H-units) one) 0x400921fb57800000 10 Confirmed 5
     -- minus zero is 0 for every M; the least double of either sign, 2^-1074 and its negative
     ∷ judged (grid (pos 0) one) 0x8000000000000000 0 5 Confirmed
     ∷ judge-code (grid (minus 1) one) 0x8000000000000000 done
