@@ -3,8 +3,10 @@
 **
 ** Every entry is called with the inputs, with their mirror, and with a few at
 ** limits and past them. The entries with a depth are called with 0 to 6,
-** which has the refusal of either side of its limits in it. agree_double.c
-** has the entries that take M and e as doubles.
+** which has the refusal of either side of its limits in it. settle, which
+** takes none, is called with four tolerances, and held against the library's
+** own judge too, tried at one depth after the other. agree_double.c has the
+** entries that take M and e as doubles.
 */
 #include <math.h>
 #include <stdio.h>
@@ -18,29 +20,43 @@
 struct call {
     int32_t m, x;
     double estimate;
-    uint32_t a, depth;
+    uint32_t a, n, depth;
 };
 
-/* M, X, estimate and A, each at its limits, past them or on neither side. */
-static const struct call limits[] = {
-    { STRIPEAWN_M_MAX, STRIPEAWN_X_MAX, 3.14, STRIPEAWN_A_MAX, DEPTH },
-    { -STRIPEAWN_M_MAX, -STRIPEAWN_X_MAX, -3.14, STRIPEAWN_A_MAX, DEPTH },
-    { STRIPEAWN_M_MAX + 1, 1, 1.0, 0, DEPTH },
-    { -STRIPEAWN_M_MAX - 1, -1, -1.0, 0, DEPTH },
-    { INT32_MAX, 0, 0.0, 0, DEPTH },
-    { INT32_MIN, 0, 0.0, 0, DEPTH },
-    { 1, STRIPEAWN_X_MAX + 1, 3.2, 0, DEPTH },
-    { -1, -STRIPEAWN_X_MAX - 1, -3.2, 0, DEPTH },
-    { 0, INT32_MAX, INFINITY, 0, DEPTH },
-    { -1, INT32_MIN, -INFINITY, 0, DEPTH },
-    { 0, -1, -STRIPEAWN_UNIT, 0, DEPTH },
-    { 1, -1, -STRIPEAWN_UNIT, 0, DEPTH },
-    { -1, 1, STRIPEAWN_UNIT, 0, DEPTH },
-    { 0, 0, -0.0, STRIPEAWN_A_MAX, DEPTH },
-    { 1, 0, -0.0, 0, DEPTH },
-    { -1, 0, 0.0, 0, DEPTH },
-    { -1, 0, NAN, 0, DEPTH },
-    { -1, 0, -1.0, STRIPEAWN_A_MAX + 1, DEPTH },
+/*
+** M, X, estimate and A, each at its limits, past them or on neither side; in
+** the last two several are past them at once.
+*/
+static const struct {
+    int32_t m, x;
+    double estimate;
+    uint32_t a;
+} limits[] = {
+    { STRIPEAWN_M_MAX, STRIPEAWN_X_MAX, 3.14, STRIPEAWN_A_MAX },
+    { -STRIPEAWN_M_MAX, -STRIPEAWN_X_MAX, -3.14, STRIPEAWN_A_MAX },
+    { STRIPEAWN_M_MAX + 1, 1, 1.0, 0 },
+    { -STRIPEAWN_M_MAX - 1, -1, -1.0, 0 },
+    { INT32_MAX, 0, 0.0, 0 },
+    { INT32_MIN, 0, 0.0, 0 },
+    { 1, STRIPEAWN_X_MAX + 1, 3.2, 0 },
+    { -1, -STRIPEAWN_X_MAX - 1, -3.2, 0 },
+    { 0, INT32_MAX, INFINITY, 0 },
+    { -1, INT32_MIN, -INFINITY, 0 },
+    { 0, -1, -STRIPEAWN_UNIT, 0 },
+    { 1, -1, -STRIPEAWN_UNIT, 0 },
+    { -1, 1, STRIPEAWN_UNIT, 0 },
+    { 0, 0, -0.0, STRIPEAWN_A_MAX },
+    { 1, 0, -0.0, 0 },
+    { -1, 0, 0.0, 0 },
+    { -1, 0, NAN, 0 },
+    { -1, 0, -1.0, STRIPEAWN_A_MAX + 1 },
+    { 1, -1, NAN, STRIPEAWN_A_MAX + 1 },
+    { STRIPEAWN_M_MAX + 1, -1, NAN, STRIPEAWN_A_MAX + 1 },
+};
+
+/* What settle is given of N, on both sides of its limit. */
+static const uint32_t tolerances[] = {
+    0, TOLERANCE, STRIPEAWN_N_MAX, STRIPEAWN_N_MAX + 1
 };
 
 /* One call on both sides: counted, and printed where they differ. */
@@ -48,9 +64,10 @@ static void compare(const char *entry, const struct call *c, int same)
 {
     if (!to_be_shown(same))
         return;
-    printf("%s differs: M = %ld, A = %lu, X = %ld, estimate %a, depth %lu\n",
+    printf("%s differs: M = %ld, A = %lu, X = %ld, estimate %a, n %lu, "
+           "depth %lu\n",
            entry, (long)c->m, (unsigned long)c->a, (long)c->x, c->estimate,
-           (unsigned long)c->depth);
+           (unsigned long)c->n, (unsigned long)c->depth);
 }
 
 /* An X below 0 is a number far above T here. */
@@ -82,10 +99,35 @@ static void compare_enclosure(const struct call *c)
 static void compare_verdict(const struct call *c)
 {
     compare("judge", c,
-            same_verdicts(stripeawn_judge(c->m, c->a, c->estimate, TOLERANCE,
+            same_verdicts(stripeawn_judge(c->m, c->a, c->estimate, c->n,
                                           c->depth),
-                          plain_judge(c->m, c->a, c->estimate, TOLERANCE,
+                          plain_judge(c->m, c->a, c->estimate, c->n,
                                       c->depth)));
+}
+
+static struct stripeawn_settled judged_in_turn(const struct call *c)
+{
+    struct stripeawn_verdict judged[STRIPEAWN_DEPTH_MAX];
+    uint32_t i;
+
+    for (i = 0; i < STRIPEAWN_DEPTH_MAX; i++)
+        judged[i] = stripeawn_judge(c->m, c->a, c->estimate, c->n, i + 1);
+    return in_turn(judged);
+}
+
+static void compare_settled(struct call c)
+{
+    size_t i;
+
+    for (i = 0; i < COUNT(tolerances); i++) {
+        struct stripeawn_settled s;
+
+        c.n = tolerances[i];
+        s = stripeawn_settle(c.m, c.a, c.estimate, c.n);
+        compare("settle", &c,
+                same_settled(s, plain_settle(c.m, c.a, c.estimate, c.n)));
+        compare("settle", &c, same_settled(s, judged_in_turn(&c)));
+    }
 }
 
 static void compare_proposal(const struct call *c)
@@ -128,6 +170,7 @@ static void compare_entries(const struct call *calls, size_t count)
             compare_verdict(&c);
         }
         compare_proposal(&calls[i]);
+        compare_settled(calls[i]);
     }
     compare_batches(calls, count);
 }
@@ -141,10 +184,11 @@ static void compare_inputs(int sign)
     for (i = 0; i < INPUTS; i++) {
         int32_t x = sign * small_angles[i];
         struct call c = { sign * anomalies[i], sign * angles[i],
-                          sign * estimates[i], eccentricities[i], DEPTH };
+                          sign * estimates[i], eccentricities[i], TOLERANCE,
+                          DEPTH };
         struct call small = { sign * small_anomalies[i], x,
                               x * STRIPEAWN_UNIT, great_eccentricities[i],
-                              DEPTH };
+                              TOLERANCE, DEPTH };
 
         calls[i] = c;
         small_calls[i] = small;
@@ -153,11 +197,25 @@ static void compare_inputs(int sign)
     compare_entries(small_calls, INPUTS);
 }
 
+static void compare_limits(void)
+{
+    struct call calls[COUNT(limits)];
+    size_t i;
+
+    for (i = 0; i < COUNT(limits); i++) {
+        struct call c = { limits[i].m, limits[i].x, limits[i].estimate,
+                          limits[i].a, TOLERANCE, DEPTH };
+
+        calls[i] = c;
+    }
+    compare_entries(calls, COUNT(limits));
+}
+
 int sides_agree(void)
 {
     compare_inputs(1);
     compare_inputs(-1);
-    compare_entries(limits, sizeof limits / sizeof limits[0]);
+    compare_limits();
     compare_doubles();
     return none_differ();
 }

@@ -3,8 +3,9 @@
 **
 ** Every entry is called with the inputs off the grid and on it, with the
 ** mirror of both, and with each M and each e of two lists that have what is
-** at a limit, next to it and past it. On the grid the library's own entries
-** of both kinds are held against each other too.
+** at a limit, next to it and past it. settle is held against the library's
+** own judge too, tried at one depth after the other, and on the grid the
+** library's entries of both kinds are held against each other.
 */
 #include <float.h>
 #include <math.h>
@@ -14,8 +15,6 @@
 #include "answers.h"
 #include "inputs.h"
 #include "plain.h"
-
-#define COUNT(list) (sizeof (list) / sizeof (list)[0])
 
 /* H and T in radians, and what lies between them and the doubles beside. */
 #define H (STRIPEAWN_M_MAX * STRIPEAWN_UNIT)
@@ -123,6 +122,28 @@ static void hold_verdict(const struct call *c, struct stripeawn_verdict other)
                           other));
 }
 
+static void hold_settled(const struct call *c, struct stripeawn_settled other)
+{
+    const struct doubles *g = &c->given;
+
+    compare("settle", c,
+            same_settled(stripeawn_settle_double(g->m, g->e, g->estimate,
+                                                 c->n),
+                         other));
+}
+
+static struct stripeawn_settled judged_in_turn(const struct call *c)
+{
+    const struct doubles *g = &c->given;
+    struct stripeawn_verdict judged[STRIPEAWN_DEPTH_MAX];
+    uint32_t i;
+
+    for (i = 0; i < STRIPEAWN_DEPTH_MAX; i++)
+        judged[i] = stripeawn_judge_double(g->m, g->e, g->estimate, c->n,
+                                           i + 1);
+    return in_turn(judged);
+}
+
 /* The entries that take nothing beside the orbit. */
 static void compare_orbit(struct call c)
 {
@@ -138,6 +159,8 @@ static void compare_beside(struct call c)
 {
     const struct doubles g = c.given;
 
+    hold_settled(&c, plain_settle_double(g.m, g.e, g.estimate, c.n));
+    hold_settled(&c, judged_in_turn(&c));
     for (c.depth = 0; c.depth <= STRIPEAWN_DEPTH_MAX + 1; c.depth++) {
         hold_lower_end(&c, plain_lower_end_double(g.x, g.m, g.e, c.depth));
         hold_upper_end(&c, plain_upper_end_double(g.x, g.m, g.e, c.depth));
@@ -187,6 +210,7 @@ static void compare_twins(int i)
     hold_enclosure(&c, stripeawn_enclose(m, a, DEPTH));
     hold_proposal(&c, stripeawn_propose(m, a));
     hold_verdict(&c, stripeawn_judge(m, a, estimates[i], TOLERANCE, DEPTH));
+    hold_settled(&c, stripeawn_settle(m, a, estimates[i], TOLERANCE));
 }
 
 void compare_doubles(void)

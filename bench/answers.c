@@ -31,6 +31,27 @@ int same_verdicts(struct stripeawn_verdict s, struct stripeawn_verdict p)
     return s.code == p.code && s.verdict == p.verdict;
 }
 
+int same_settled(struct stripeawn_settled s, struct stripeawn_settled p)
+{
+    return s.code == p.code && s.verdict == p.verdict && s.depth == p.depth;
+}
+
+struct stripeawn_settled in_turn(
+    const struct stripeawn_verdict judged[STRIPEAWN_DEPTH_MAX])
+{
+    struct stripeawn_settled answer = { judged[0].code, 0, 0 };
+    uint32_t depth = 1;
+
+    if (answer.code != 0)
+        return answer;
+    while (depth < STRIPEAWN_DEPTH_MAX &&
+           judged[depth - 1].verdict == STRIPEAWN_UNDECIDED)
+        depth++;
+    answer.verdict = judged[depth - 1].verdict;
+    answer.depth = depth;
+    return answer;
+}
+
 int to_be_shown(int same)
 {
     compared++;

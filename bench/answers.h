@@ -16,6 +16,12 @@ int same_proposals(struct stripeawn_proposal s, struct stripeawn_proposal p);
 
 int same_verdicts(struct stripeawn_verdict s, struct stripeawn_verdict p);
 
+int same_settled(struct stripeawn_settled s, struct stripeawn_settled p);
+
+/* What settle has to answer, by the judge's answers at depths 1 to 5. */
+struct stripeawn_settled in_turn(
+    const struct stripeawn_verdict judged[STRIPEAWN_DEPTH_MAX]);
+
 /* Counts a comparison; 1 where it is one of the first that differ. */
 int to_be_shown(int same);
 

@@ -1,35 +1,30 @@
 /*
 ** bench.c: the time of every entry against the plain C version.
 **
-**    bench ROUNDS [NOTE]
+**    bench ROUNDS CLAIMS [NOTE]
 **
 ** First both sides must give the same answer to every call. Then both run in
 ** this one process over the same inputs, in turns, and the fastest of ROUNDS
 ** rounds counts, so that the ratios mean something on a busy machine. NOTE,
-** if given, is printed with the figures. The last lines have what doubles
-** cost: the library's entries that take them against those of the grid.
+** if given, is printed with the figures. The lines after these are of the
+** library alone: what doubles cost, by the entries that take them against
+** those of the grid; what it costs to be told the depth, by settle against
+** the judge; and at which depths settle decides, of CLAIMS claims of each
+** kind.
 **
 ** The library makes no more terms of sine once they are spent: after one pair
 ** at small angles, which are most of what an enclosure tests near M = 0. The
 ** plain C version makes every term, so that the two rows with such inputs
 ** show what stopping gains.
 */
-#define _POSIX_C_SOURCE 200809L
 #include <stdio.h>
 #include <stdlib.h>
-#include <time.h>
 
 #include "agree.h"
 #include "inputs.h"
 #include "plain.h"
-
-/*
-** One pass over all inputs. It gives a sum of what was returned, and the sum
-** is kept, so that no compiler can leave a call out.
-*/
-typedef uint64_t pass(void);
-
-static volatile uint64_t kept;
+#include "shares.h"
+#include "timing.h"
 
 /* Which doubles the passes over doubles take. */
 static const struct doubles *given;
@@ -82,6 +77,11 @@ static const struct doubles *given;
 #define JUDGE(P)                                                            \
         sum += P##_judge(anomalies[i], eccentricities[i], estimates[i],     \
                          TOLERANCE, DEPTH).verdict;
+#define SETTLE(P) {                                                         \
+        struct stripeawn_settled r =                                        \
+            P##_settle(anomalies[i], eccentricities[i], estimates[i],       \
+                       TOLERANCE);                                          \
+        sum += (uint64_t)r.verdict * 3 + r.depth; }
 #define LOWER_DOUBLE(P)                                                     \
         sum += P##_lower_end_double(given[i].x, given[i].m, given[i].e,     \
                                     DEPTH).accepted;
@@ -100,6 +100,11 @@ static const struct doubles *given;
 #define JUDGE_DOUBLE(P)                                                     \
         sum += P##_judge_double(given[i].m, given[i].e, given[i].estimate,  \
                                 TOLERANCE, DEPTH).verdict;
+#define SETTLE_DOUBLE(P) {                                                  \
+        struct stripeawn_settled r =                                        \
+            P##_settle_double(given[i].m, given[i].e, given[i].estimate,    \
+                              TOLERANCE);                                   \
+        sum += (uint64_t)r.verdict * 3 + r.depth; }
 
 BOTH_SIDES(sine, SINE)
 BOTH_SIDES(sine_small, SINE_SMALL)
@@ -110,11 +115,13 @@ BOTH_SIDES(enclose_mirrored, ENCLOSE_MIRRORED)
 BOTH_SIDES(enclose_parabolic, ENCLOSE_PARABOLIC)
 BOTH_SIDES(propose, PROPOSE)
 BOTH_SIDES(judge, JUDGE)
+BOTH_SIDES(settle, SETTLE)
 BOTH_SIDES(lower_double, LOWER_DOUBLE)
 BOTH_SIDES(upper_double, UPPER_DOUBLE)
 BOTH_SIDES(enclose_double, ENCLOSE_DOUBLE)
 BOTH_SIDES(propose_double, PROPOSE_DOUBLE)
 BOTH_SIDES(judge_double, JUDGE_DOUBLE)
+BOTH_SIDES(settle_double, SETTLE_DOUBLE)
 
 static uint64_t sum_of(const uint8_t *answers)
 {
@@ -142,43 +149,6 @@ static uint64_t plain_batch_pass(void)
     return sum_of(answers);
 }
 
-static double seconds(void)
-{
-    struct timespec now;
-
-    clock_gettime(CLOCK_MONOTONIC, &now);
-    return (double)now.tv_sec + 1e-9 * (double)now.tv_nsec;
-}
-
-/* Runs one pass; the lesser of its time and the least so far. */
-static double timed(pass *side, double least)
-{
-    double start = seconds(), took;
-
-    kept = side();
-    took = seconds() - start;
-    return took < least ? took : least;
-}
-
-/* Times two passes in turns and prints a line. */
-static void measure(const char *name, pass *left, pass *right, long rounds)
-{
-    double left_least = 1e9, right_least = 1e9;
-    long round;
-
-    for (round = 0; round < rounds; round++) {
-        left_least = timed(left, left_least);
-        right_least = timed(right, right_least);
-    }
-    printf("%-24s %10.1f %10.1f %8.2f\n", name, left_least / INPUTS * 1e9,
-           right_least / INPUTS * 1e9, left_least / right_least);
-}
-
-static void print_heading(const char *left, const char *right)
-{
-    printf("%-24s %10s %10s %8s\n", "entry", left, right, "ratio");
-}
-
 static void measure_grid(long rounds)
 {
     measure("sine", library_sine, plain_sine_pass, rounds);
@@ -193,6 +163,7 @@ static void measure_grid(long rounds)
             plain_enclose_parabolic_pass, rounds);
     measure("propose", library_propose, plain_propose_pass, rounds);
     measure("judge", library_judge, plain_judge_pass, rounds);
+    measure("settle", library_settle, plain_settle_pass, rounds);
     measure("judge_claims, a claim", library_batch, plain_batch_pass, rounds);
 }
 
@@ -211,6 +182,8 @@ static const struct {
       library_propose },
     { "judge_double", library_judge_double, plain_judge_double_pass,
       library_judge },
+    { "settle_double", library_settle_double, plain_settle_double_pass,
+      library_settle },
 };
 
 enum { DOUBLE_ROWS = sizeof double_rows / sizeof double_rows[0] };
@@ -236,30 +209,48 @@ static void measure_price(long rounds)
                 double_rows[i].twin, rounds);
 }
 
+/* What settle may take of the judge's time at depth 5, on the same claims. */
+static const double settle_bar = 1.1;
+
+static void measure_settle(long rounds)
+{
+    given = off_grid;
+    measure_to_bar("settle", library_settle, library_judge, rounds,
+                   settle_bar);
+    measure_to_bar("settle_double", library_settle_double,
+                   library_judge_double, rounds, settle_bar);
+}
+
 static void measure_all(long rounds)
 {
-    printf("nanoseconds a call at depth 5, least of %ld rounds\n", rounds);
+    printf("nanoseconds a call at depth 5 (settle takes none), least of %ld "
+           "rounds\n", rounds);
     print_heading("library", "plain C");
     measure_grid(rounds);
     measure_doubles(rounds);
     printf("the library alone, the same orbits as doubles and on the grid\n");
     print_heading("doubles", "grid");
     measure_price(rounds);
+    printf("the library alone, settle and the judge on the same claims\n");
+    print_heading("settle", "judge");
+    measure_settle(rounds);
 }
 
 int main(int count, char **arguments)
 {
     long rounds = count > 1 ? strtol(arguments[1], NULL, 10) : 0;
+    long claims_drawn = count > 2 ? strtol(arguments[2], NULL, 10) : 0;
 
-    if (rounds < 1) {
-        fprintf(stderr, "usage: bench ROUNDS [NOTE]\n");
+    if (rounds < 1 || claims_drawn < 1) {
+        fprintf(stderr, "usage: bench ROUNDS CLAIMS [NOTE]\n");
         return 2;
     }
     make_inputs();
     if (!sides_agree())
         return 1;
-    if (count > 2)
-        printf("%s\n", arguments[2]);
+    if (count > 3)
+        printf("%s\n", arguments[3]);
     measure_all(rounds);
+    print_shares(claims_drawn);
     return 0;
 }

@@ -48,13 +48,34 @@ static double near_angle(int32_t x)
     return (x + (int32_t)draw(200)) * STRIPEAWN_UNIT;
 }
 
+/* M and A of any orbit, and of a near-parabolic one near M = 0. */
+static int32_t any_anomaly(void)
+{
+    return (int32_t)draw(STRIPEAWN_M_MAX - 1000);
+}
+
+static uint32_t any_eccentricity(void)
+{
+    return draw(STRIPEAWN_A_MAX);
+}
+
+static int32_t small_anomaly(void)
+{
+    return (int32_t)draw(15);
+}
+
+static uint32_t great_eccentricity(void)
+{
+    return STRIPEAWN_A_MAX - draw(4095);
+}
+
 static void make_grid_inputs(void)
 {
     int i;
 
     for (i = 0; i < INPUTS; i++) {
-        int32_t m = anomalies[i] = (int32_t)draw(STRIPEAWN_M_MAX - 1000);
-        uint32_t a = eccentricities[i] = draw(STRIPEAWN_A_MAX);
+        int32_t m = anomalies[i] = any_anomaly();
+        uint32_t a = eccentricities[i] = any_eccentricity();
 
         angles[i] = near_root(plain_enclose(m, a, DEPTH).lower);
         estimates[i] = near_angle(angles[i]);
@@ -94,10 +115,37 @@ static void make_small_inputs(void)
     int i;
 
     for (i = 0; i < INPUTS; i++) {
-        small_anomalies[i] = (int32_t)draw(15);
-        great_eccentricities[i] = STRIPEAWN_A_MAX - draw(4095);
+        small_anomalies[i] = small_anomaly();
+        great_eccentricities[i] = great_eccentricity();
         small_angles[i] = (int32_t)draw((1 << 20) - 1);
     }
+}
+
+struct doubles draw_orbit(enum orbits kind)
+{
+    int parabolic = kind == NEAR_PARABOLIC, off = kind == ANY_OFF_GRID;
+    int32_t m = parabolic ? small_anomaly() : any_anomaly();
+    uint32_t a = parabolic ? great_eccentricity() : any_eccentricity();
+    struct doubles orbit = { 0.0, 0.0, 0.0, 0 };
+    struct stripeawn_enclosure r;
+
+    orbit.m = off ? less_a_part(m) : m * STRIPEAWN_UNIT;
+    orbit.e = off ? less_a_part(a) : a * STRIPEAWN_UNIT;
+    r = plain_enclose_double(orbit.m, orbit.e, DEPTH);
+    orbit.x = r.lower + (r.upper - r.lower) / 2;
+    return orbit;
+}
+
+/* Parts of a unit too; kept within what an estimate may be. */
+double draw_estimate(const struct doubles *orbit, uint32_t n)
+{
+    double units = orbit->x - 2.0 * n + draw(4096 * n) / 1024.0;
+
+    if (units < 0.0)
+        units = 0.0;
+    if (units > STRIPEAWN_X_MAX)
+        units = STRIPEAWN_X_MAX;
+    return units * STRIPEAWN_UNIT;
 }
 
 /* What was added later is drawn later: the others are what they ever were. */

@@ -8,6 +8,8 @@
 
 enum { INPUTS = 2048, DEPTH = 5, TOLERANCE = 100 };
 
+#define COUNT(list) (sizeof (list) / sizeof (list)[0])
+
 extern int32_t anomalies[INPUTS], angles[INPUTS];
 extern uint32_t eccentricities[INPUTS];
 extern double estimates[INPUTS];
@@ -34,6 +36,15 @@ extern uint32_t great_eccentricities[INPUTS];
 ** the roots of these orbits are.
 */
 void make_inputs(void);
+
+/* Which orbits are drawn: any, on the grid or off it, or near M = 0 on it. */
+enum orbits { ANY_ON_GRID, ANY_OFF_GRID, NEAR_PARABOLIC };
+
+/* One orbit more, as doubles, with x at the middle of its enclosure. */
+struct doubles draw_orbit(enum orbits kind);
+
+/* An estimate up to 2n units off that middle, to either side. */
+double draw_estimate(const struct doubles *orbit, uint32_t n);
 
 /* Writes a claim record, with the tolerance and the depth of all. */
 void put_claim(uint8_t *record, int32_t m, uint32_t a, double estimate);

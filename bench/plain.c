@@ -2,25 +2,24 @@
 ** plain.c: the rules of the library in plain C, the measure for bench.c.
 **
 ** Written to be read beside the rules: two running terms for sine, two
-** binary searches for an enclosure, fifty rotations for a proposal, which
-** plain_sine.h and plain_cell.h have. All this is for M not below 0;
-** plain_mirror.c has the entries for every M. On the grid a cell is one
-** point.
+** binary searches for an enclosure, fifty rotations for a proposal, four ends
+** for a verdict, which plain_sine.h, plain_cell.h and plain_judge.h have. All
+** this is for M not below 0; plain_mirror.c has the entries for every M. On
+** the grid a cell is one point.
 */
 #include "plain_cell.h"
+#include "plain_judge.h"
 #include "unmirrored.h"
 
 /* Of a point both roundings are the number itself. */
-static int lower(uint32_t x, struct cell c, uint32_t depth)
+static int lower_by(uint32_t x, struct cell c, struct series s)
 {
-    return UNIT * ((int64_t)x - c.m.down) <=
-           (int64_t)c.a.down * bounds(x, depth).lo;
+    return UNIT * ((int64_t)x - c.m.down) <= (int64_t)c.a.down * s.lo;
 }
 
-static int upper(uint32_t x, struct cell c, uint32_t depth)
+static int upper_by(uint32_t x, struct cell c, struct series s)
 {
-    return UNIT * ((int64_t)x - c.m.up) >=
-           (int64_t)c.a.up * bounds(x, depth).hi;
+    return UNIT * ((int64_t)x - c.m.up) >= (int64_t)c.a.up * s.hi;
 }
 
 /* The codes 1, 2 and 3 in their order, or 0. */
@@ -83,4 +82,10 @@ struct stripeawn_verdict unmirrored_judge(uint32_t m, uint32_t a,
                                           uint32_t depth)
 {
     return judge(point(m, a, depth), estimate, n);
+}
+
+struct stripeawn_settled unmirrored_settle(uint32_t m, uint32_t a,
+                                           double estimate, uint32_t n)
+{
+    return settle(point(m, a, 5), estimate, n, EACH_DEPTH);
 }

@@ -25,6 +25,9 @@ struct stripeawn_proposal plain_propose(int32_t m, uint32_t a);
 struct stripeawn_verdict plain_judge(int32_t m, uint32_t a, double estimate,
                                      uint32_t n, uint32_t depth);
 
+struct stripeawn_settled plain_settle(int32_t m, uint32_t a, double estimate,
+                                      uint32_t n);
+
 struct stripeawn_end plain_lower_end_double(int32_t x, double m, double e,
                                             uint32_t depth);
 
@@ -39,6 +42,9 @@ struct stripeawn_proposal plain_propose_double(double m, double e);
 struct stripeawn_verdict plain_judge_double(double m, double e,
                                             double estimate, uint32_t n,
                                             uint32_t depth);
+
+struct stripeawn_settled plain_settle_double(double m, double e,
+                                             double estimate, uint32_t n);
 
 struct stripeawn_batch plain_judge_claims(const uint8_t *claims,
                                           size_t claims_len,

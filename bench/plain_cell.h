@@ -44,11 +44,23 @@ static struct span in_units(double number)
 }
 
 /*
-** The two end tests, which the file that includes this one defines: on the
-** grid one product does, and two would make the measure of it slower.
+** The two end tests by bounds of the sine of x, which the file that includes
+** this one defines: on the grid one product does, and two would make the
+** measure of it slower.
 */
-static int lower(uint32_t x, struct cell c, uint32_t depth);
-static int upper(uint32_t x, struct cell c, uint32_t depth);
+typedef int end_test(uint32_t x, struct cell c, struct series s);
+
+static end_test lower_by, upper_by;
+
+static int lower(uint32_t x, struct cell c, uint32_t depth)
+{
+    return lower_by(x, c, bounds(x, depth));
+}
+
+static int upper(uint32_t x, struct cell c, uint32_t depth)
+{
+    return upper_by(x, c, bounds(x, depth));
+}
 
 /* Code 3 or 0, which comes after the codes 1 and 2 of a problem. */
 static uint32_t depth_code(uint32_t depth)
@@ -180,39 +192,6 @@ static struct stripeawn_proposal propose(struct problem p)
     answer.e_sin = y;
     answer.e_cos = x;
     answer.j = certificate((uint32_t)e, p.cell);
-    return answer;
-}
-
-/* The verdict on a claim whose codes have all been tested. */
-static uint32_t verdict(struct cell c, double estimate, uint32_t n,
-                        uint32_t depth)
-{
-    struct span s = in_units(estimate);
-    uint32_t p = s.up > n ? s.up - n : 0;
-    uint32_t q = s.down + n;
-
-    if (q > STRIPEAWN_X_MAX)
-        q = STRIPEAWN_X_MAX;
-    if (lower(p, c, depth) && upper(q, c, depth))
-        return 16;
-    if (s.down + n + 1 <= STRIPEAWN_X_MAX && lower(s.down + n + 1, c, depth))
-        return 17;
-    if (s.up >= n + 1 && upper(s.up - n - 1, c, depth))
-        return 17;
-    return 18;
-}
-
-static struct stripeawn_verdict judge(struct problem p, double estimate,
-                                      uint32_t n)
-{
-    struct stripeawn_verdict answer = { p.code, 0 };
-
-    if (answer.code == 0 && !within(estimate, STRIPEAWN_X_MAX))
-        answer.code = 4;
-    if (answer.code == 0 && n > STRIPEAWN_N_MAX)
-        answer.code = 5;
-    if (answer.code == 0)
-        answer.verdict = verdict(p.cell, estimate, n, p.depth);
     return answer;
 }
 

@@ -5,6 +5,7 @@
 ** exact, and rounded down and up. The rules over it are those of plain.c.
 */
 #include "plain_cell.h"
+#include "plain_judge.h"
 #include "unmirrored.h"
 
 static int64_t lesser(int64_t p, int64_t q)
@@ -17,20 +18,16 @@ static int64_t greater(int64_t p, int64_t q)
     return p > q ? p : q;
 }
 
-static int lower(uint32_t x, struct cell c, uint32_t depth)
+static int lower_by(uint32_t x, struct cell c, struct series s)
 {
-    int64_t lo = bounds(x, depth).lo;
-
     return UNIT * ((int64_t)x - c.m.down) <=
-           lesser(c.a.down * lo, c.a.up * lo);
+           lesser(c.a.down * s.lo, c.a.up * s.lo);
 }
 
-static int upper(uint32_t x, struct cell c, uint32_t depth)
+static int upper_by(uint32_t x, struct cell c, struct series s)
 {
-    int64_t hi = bounds(x, depth).hi;
-
     return UNIT * ((int64_t)x - c.m.up) >=
-           greater(c.a.down * hi, c.a.up * hi);
+           greater(c.a.down * s.hi, c.a.up * s.hi);
 }
 
 /* The codes 1, 2 and 3 in their order, or 0. */
@@ -83,4 +80,11 @@ struct stripeawn_verdict unmirrored_judge_double(double m, double e,
                                                  uint32_t depth)
 {
     return judge(rounded(m, e, depth), estimate, n);
+}
+
+struct stripeawn_settled unmirrored_settle_double(double m, double e,
+                                                  double estimate,
+                                                  uint32_t n)
+{
+    return settle(rounded(m, e, 5), estimate, n, EACH_DEPTH);
 }

@@ -119,3 +119,17 @@ struct stripeawn_verdict plain_judge_double(double m, double e,
                                    unmirrored_double(estimate, m < 0), n,
                                    depth);
 }
+
+struct stripeawn_settled plain_settle(int32_t m, uint32_t a, double estimate,
+                                      uint32_t n)
+{
+    return unmirrored_settle(unmirrored(m, m < 0), a,
+                             unmirrored_double(estimate, m < 0), n);
+}
+
+struct stripeawn_settled plain_settle_double(double m, double e,
+                                             double estimate, uint32_t n)
+{
+    return unmirrored_settle_double(unmirrored_double(m, m < 0), e,
+                                    unmirrored_double(estimate, m < 0), n);
+}

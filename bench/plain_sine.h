@@ -44,24 +44,39 @@ static inline void next_depth(struct series *s, uint64_t odd, uint64_t even)
 }
 
 /*
-** Lo and Hi for x at most T. The divisors are written out, 2k(2k+1) for
-** k = 1 to 10, so that the compiler divides by multiplying.
+** The divisors of each depth: 2k(2k+1), for k = 1 to 10 in all. They are
+** written out, so that the compiler divides by multiplying.
 */
-static struct series bounds(uint32_t x, uint32_t depth)
+#define DIVISORS_1 2 * 3, 4 * 5
+#define DIVISORS_2 6 * 7, 8 * 9
+#define DIVISORS_3 10 * 11, 12 * 13
+#define DIVISORS_4 14 * 15, 16 * 17
+#define DIVISORS_5 18 * 19, 20 * 21
+
+/* Before the first depth, for x at most T. */
+static inline struct series begin(uint32_t x)
 {
     uint64_t square = (uint64_t)x * x;
     struct series s = { square / UNIT, (square + (UNIT - 1)) / UNIT,
                         x, x, x, x, INT64_MIN, INT64_MAX };
 
-    next_depth(&s, 2 * 3, 4 * 5);
+    return s;
+}
+
+/* Lo and Hi for x at most T. */
+static struct series bounds(uint32_t x, uint32_t depth)
+{
+    struct series s = begin(x);
+
+    next_depth(&s, DIVISORS_1);
     if (depth >= 2)
-        next_depth(&s, 6 * 7, 8 * 9);
+        next_depth(&s, DIVISORS_2);
     if (depth >= 3)
-        next_depth(&s, 10 * 11, 12 * 13);
+        next_depth(&s, DIVISORS_3);
     if (depth >= 4)
-        next_depth(&s, 14 * 15, 16 * 17);
+        next_depth(&s, DIVISORS_4);
     if (depth >= 5)
-        next_depth(&s, 18 * 19, 20 * 21);
+        next_depth(&s, DIVISORS_5);
     return s;
 }
 

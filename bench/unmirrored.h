@@ -24,6 +24,9 @@ struct stripeawn_verdict unmirrored_judge(uint32_t m, uint32_t a,
                                           double estimate, uint32_t n,
                                           uint32_t depth);
 
+struct stripeawn_settled unmirrored_settle(uint32_t m, uint32_t a,
+                                           double estimate, uint32_t n);
+
 /* The same of M in radians and e. */
 struct stripeawn_end unmirrored_lower_end_double(uint32_t x, double m,
                                                  double e, uint32_t depth);
@@ -39,5 +42,9 @@ struct stripeawn_proposal unmirrored_propose_double(double m, double e);
 struct stripeawn_verdict unmirrored_judge_double(double m, double e,
                                                  double estimate, uint32_t n,
                                                  uint32_t depth);
+
+struct stripeawn_settled unmirrored_settle_double(double m, double e,
+                                                  double estimate,
+                                                  uint32_t n);
 
 #endif
