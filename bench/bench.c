@@ -14,7 +14,7 @@
 **
 ** The library makes no more terms of sine once they are spent: after one pair
 ** at small angles, which are most of what an enclosure tests near M = 0. The
-** plain C version makes every term, so that the two rows with such inputs
+** plain C version has no such stop, so that the two rows with such inputs
 ** show what stopping gains.
 */
 #include <stdio.h>
