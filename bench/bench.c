@@ -231,7 +231,8 @@ static void measure_all(long rounds)
     printf("the library alone, the same orbits as doubles and on the grid\n");
     print_heading("doubles", "grid");
     measure_price(rounds);
-    printf("the library alone, settle and the judge on the same claims\n");
+    printf("the library alone, settle and the judge at depth 5 on the same "
+           "claims\n");
     print_heading("settle", "judge");
     measure_settle(rounds);
 }
