@@ -148,6 +148,11 @@ double draw_estimate(const struct doubles *orbit, uint32_t n)
     return units * STRIPEAWN_UNIT;
 }
 
+double draw_any_estimate(void)
+{
+    return draw(STRIPEAWN_X_MAX) * STRIPEAWN_UNIT;
+}
+
 /* What was added later is drawn later: the others are what they ever were. */
 void make_inputs(void)
 {

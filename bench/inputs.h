@@ -46,6 +46,9 @@ struct doubles draw_orbit(enum orbits kind);
 /* An estimate up to 2n units off that middle, to either side. */
 double draw_estimate(const struct doubles *orbit, uint32_t n);
 
+/* An estimate from 0 to T units. */
+double draw_any_estimate(void);
+
 /* Writes a claim record, with the tolerance and the depth of all. */
 void put_claim(uint8_t *record, int32_t m, uint32_t a, double estimate);
 
