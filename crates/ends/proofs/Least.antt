@@ -10,7 +10,7 @@ use borrow.Author.Tests.{ne-eqb}
 use lib.Dec.{T, eqb, T-not, not-T}
 use Rattle.whole.specs.First.{firstFrom}
 use Rattle.whole.proofs.Bools.{passed, passes, fails}
-use Rattle.whole.proofs.First.{First, first, only}
+use Rattle.whole.proofs.First.{first, only}
 use Rattle.ends.specs.Least.{leastDepth}
 
 -- k is the least of the depths 1 to d that pass, and d passes too

@@ -36,7 +36,7 @@ module _ (c : Cell) (u : Units) (n : ℕ) where
   abbrev decidesAt : ℕ → Bool
   decidesAt d = decides (verdictOf c d u n)
 
-  -- a test behind a verdict that fails at a depth fails at every lesser one
+  -- no test behind a verdict passes at a depth
   record Never (d : ℕ) : Type 0 where
     confirms : T (confirmed c d u n) → ⊥
     above : T (lowerAbove c d u n) → ⊥

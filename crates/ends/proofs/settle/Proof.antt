@@ -1,7 +1,7 @@
 -- `ends::settle` meets its contract: the walk goes on until a depth accepts, which is then the least, rules every depth out, is the
 -- one asked for, or has spent terms. Assumes nothing.
 use mathlib.Core.Path.{_≡_, sym, ap, ap₂, _∙_}
-use mathlib.Core.Bool.{Bool, true, false, not}
+use mathlib.Core.Bool.{false, not}
 use mathlib.Core.Logic.{inl, inr}
 use Prim.Native.Nat.{ℕ, suc, _-_, _≤_, _<_}
 use native.Mathlib.Omega.{arith}
