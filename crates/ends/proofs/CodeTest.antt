@@ -75,6 +75,10 @@ settled true false other r e stays never = absurd (passed false (sym e))
 settled false most true r e stays never = absurd (passed false (sym e))
 settled false most false r e stays never = never refl
 
+unsettled : (least most other : Bool) → cond least most (not other) ≡ false → (least && most) ≡ false
+unsettled true most other e = e
+unsettled false most other e = refl
+
 -- the tests of one depth
 module _ (upper : Bool) (least most : Corner) (w : Walk) where
   abbrev leastPasses : Bool
@@ -102,6 +106,10 @@ module _ (upper : Bool) (least most : Corner) (w : Walk) where
 
   now-settled : (r : Bool) → now .settles ≡ true → (true ≡ now .accepts → true ≡ r) → (otherPasses ≡ false → false ≡ r) → now .accepts ≡ r
   now-settled r = settled leastPasses mostPasses otherPasses r
+
+  -- what doesn't settle doesn't accept
+  pub now-unsettled : now .settles ≡ false → now .accepts ≡ false
+  now-unsettled = unsettled leastPasses mostPasses otherPasses
 
 module _ (X : ℕ) (x : X ≤ T-units) (w : Walk) (n : ℕ) (at : w ≡ walk sine X (suc n)) (few : suc n ≤ depths) where
   in-bounds : (upper : Bool) → InBounds (boundOf upper X (suc n))

@@ -111,10 +111,10 @@ fn settle(m: u64, a: Span, depth: Depth, x: Angle, upper: bool) -> u64
     loop {
         w = series::further(w);
         let now = at_depth(least, most, w, upper);
-        if now.accepts {
-            return w.pairs;
+        if now.settles {
+            return if now.accepts { w.pairs } else { 0 };
         }
-        if now.settles || w.pairs == pairs || series::spent(w) {
+        if w.pairs == pairs || series::spent(w) {
             return 0;
         }
     }

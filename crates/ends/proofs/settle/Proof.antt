@@ -6,7 +6,6 @@ use mathlib.Core.Logic.{inl, inr}
 use Prim.Native.Nat.{ℕ, suc, _-_, _≤_, _<_}
 use native.Mathlib.Omega.{arith}
 use borrow.Author.Needs.{needs}
-use borrow.Author.Tests.{eqb-true, eqb-false}
 use lib.Dec.{T}
 use Rattle.grid.specs.Grid.{depths}
 use Rattle.series.specs.Sine.{sine}
@@ -19,7 +18,7 @@ use Rattle.ends.specs.Corner.{oneMean, cornerOf, atDepth, WalkIn}
 use Rattle.ends.specs.declared.Corner.{Corner}
 use Rattle.ends.specs.declared.AtDepth.{AtDepth}
 use Rattle.ends.proofs.Least.{none}
-use Rattle.ends.proofs.CodeTest.{walk-in, reports, ruled-out, refused-last, refused-spent, none-before}
+use Rattle.ends.proofs.CodeTest.{now-unsettled, walk-in, reports, ruled-out, refused-last, refused-spent, none-before}
 use Rattle.ends.proofs.settle.Statement.{statement}
 use Rattle.ends.proofs.settle.Tie as tie
 
@@ -111,13 +110,13 @@ at-depth-requires c κs = corners-in c
 
 returns : tie.Need-returns Inv-loop μ-loop
 returns c =
-    let d = c .before in
+    let d = c .before .before in
     let f = d .before in
     let s = start f in
     let g = s .args in
     pairs-is f
     ∙ sym (reports (g .x .units) (s .pre .angle .top) (f .further .result) _ (next f) (few f) (g .m) (g .a) (g .upper)
-    (sym (ap (λ (t : AtDepth). t .accepts) (corners-say d)) ∙ c .if1 .taken) (before f) (g .depth .pairs) (omega (arith, f .before .loop .inv .1)))
+    (sym (ap (λ (t : AtDepth). t .accepts) (corners-say d)) ∙ c .if2 .taken) (before f) (g .depth .pairs) (omega (arith, f .before .loop .inv .1)))
 
 returns-2 : tie.Need-returns-2 Inv-loop μ-loop
 returns-2 c =
@@ -125,42 +124,51 @@ returns-2 c =
     let f = d .before in
     let s = start f in
     let g = s .args in
-    let within = f .before .loop .inv .1 in
-    let k = pairs-is f in
-    let e = sym (ap (λ (t : AtDepth). t .accepts) (corners-say d)) ∙ c .before .if1 .left in
+    let e = corners-say d in
     sym (none _ (g .depth .pairs)
-    (elim (c .if2 .came) [
-      | inl t ↦
-          ruled-out (g .x .units) (s .pre .angle .top) (f .further .result) _ (next f) (few f) (g .m) (g .a) (g .upper) e
-          (sym (ap (λ (t : AtDepth). t .settles) (corners-say d)) ∙ t .taken) (g .depth .pairs) (omega arith) (s .pre .depth .few)
-      | inr (inl p) ↦
-          refused-last (g .x .units) (s .pre .angle .top) (f .further .result) _ (next f) (few f) (g .m) (g .a) (g .upper) e
-          (g .depth .pairs) (sym k ∙ eqb-true _ _ (p .2 .taken))
-      | inr (inr p) ↦
-          refused-spent (g .x .units) (s .pre .angle .top) (f .further .result) _ (next f) (few f) (g .m) (g .a) (g .upper) e
-          (sym (p .3 .ensures) ∙ p .4 .taken) (g .depth .pairs) (omega arith)
-    ]))
+    (ruled-out (g .x .units) (s .pre .angle .top) (f .further .result) _ (next f) (few f) (g .m) (g .a) (g .upper)
+    (sym (ap (λ (t : AtDepth). t .accepts) e) ∙ c .if2 .left) (sym (ap (λ (t : AtDepth). t .settles) e) ∙ c .before .if1 .taken)
+    (g .depth .pairs) (omega (arith, f .before .loop .inv .1)) (s .pre .depth .few)))
 
--- what this depth didn't accept, said of the corners as they were made
-refused : (c : tie.Else1 Inv-loop μ-loop)
+-- what wasn't settled wasn't accepted, said of the corners as they were made
+unsettled : (c : tie.Else1 Inv-loop μ-loop)
     → let f = c .before .before in
     atDepth (start f .args .upper) (f .before .before .before .before .corner-at .result) (f .before .before .before .corner-at2 .result) (f .further .result) .accepts
     ≡ false
-refused c = let e : c .before .at-depth .result .accepts ≡ false = c .if1 .left in rw (c .before .at-depth .ensures) at e
+unsettled c =
+    let f = c .before .before in
+    let e : c .before .at-depth .result .settles ≡ false = c .if1 .left in
+    now-unsettled (start f .args .upper) (f .before .before .before .before .corner-at .result) (f .before .before .before .corner-at2 .result)
+    (f .further .result) (rw (c .before .at-depth .ensures) at e)
+
+returns-3 : tie.Need-returns-3 Inv-loop μ-loop
+returns-3 c =
+    let o = c .before .before in
+    let f = o .before .before in
+    let s = start f in
+    let g = s .args in
+    let within = f .before .loop .inv .1 in
+    let k = pairs-is f in
+    let e = sym (ap (λ (t : AtDepth). t .accepts) (at-corners f (f .further .result))) ∙ unsettled o in
+    sym (none _ (g .depth .pairs)
+    (elim (c .if3 .came) [
+      | inl t ↦
+          refused-last (g .x .units) (s .pre .angle .top) (f .further .result) _ (next f) (few f) (g .m) (g .a) (g .upper) e
+          (g .depth .pairs) (sym k ∙ t .taken)
+      | inr p ↦
+          refused-spent (g .x .units) (s .pre .angle .top) (f .further .result) _ (next f) (few f) (g .m) (g .a) (g .upper) e
+          (sym (p .1 .ensures) ∙ p .2 .taken) (g .depth .pairs) (omega arith)
+    ]))
 
 loop-less : tie.Need-loop-less Inv-loop μ-loop
-loop-less c =
-    let f = c .before .before .before .before .before .before .before in
-    let k = pairs-is f in
-    omega (arith, f .before .loop .inv .1)
+loop-less c = let f = c .before .before .before .before .before .before in let k = pairs-is f in omega (arith, f .before .loop .inv .1)
 
 loop-again : tie.Need-loop-again Inv-loop μ-loop
 loop-again c =
-    let e = c .before .before .before .before .before in
-    let f = e .before .before in
+    let o = c .before .before .before .before in
+    let f = o .before .before in
     let k = pairs-is f in
-    let more = eqb-false (f .further .result .pairs) (start f .args .depth .pairs) (c .before .before .if3 .left) in
-    (own-pairs _ _ _ (next f), omega (arith, f .before .loop .inv .1, more), λ h. refused e)
+    (own-pairs _ _ _ (next f), omega (arith, f .before .loop .inv .1, c .before .before .if3 .left), λ h. unsettled o)
 
 pub settle-spec : {M : Type 1} → statement M
 settle-spec =
@@ -176,7 +184,8 @@ settle-spec =
     further-requires
     at-depth-requires
     returns
-    (λ c κs. search needs)
     returns-2
+    (λ c κs. search needs)
+    returns-3
     loop-less
     loop-again)
