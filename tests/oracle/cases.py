@@ -16,7 +16,7 @@ import draws
 import records
 import wire
 from draws import small
-from limits import T, TOLERANCE
+from limits import DEPTHS, H, T, TOLERANCE
 
 
 def is_mirrored(rng, given):
@@ -67,17 +67,47 @@ def proposal_case(rng, family):
     return wire.propose(family.spoil(rng, orbit(rng, family)))
 
 
-def claim(rng, family):
-    """A problem, estimate, N and depth, with the estimate about N from an
-    angle at which an end test turns."""
-    d = draws.depth(rng)
+def turning_claim(rng, family, d):
+    """A problem, an estimate in units and N, with the estimate about N from
+    an angle at which an end test turns at depth d."""
     x, given = family.turning(rng, d)
-    n = rng.choice((0, 1, small(rng, 16), rng.randrange(TOLERANCE + 1)))
+    n = draws.tolerance(rng)
     off = rng.choice((-n - 1, -n, n, n + 1, 0)) + rng.choice((-1, 0, 1))
-    bits = draws.estimate(rng, x + off)
+    return given, x + off, n
+
+
+def rooted_claim(rng, family):
+    """The like with the estimate about N from the root: how much more or less
+    it is says which depth can tell."""
+    x, given = family.turning(rng, DEPTHS[-1])
+    far = small(rng, 17)
+    n = far + rng.choice((1, -1)) * small(rng, rng.choice((8, 16)))
+    return given, x + rng.choice((1, -1)) * far, min(max(n, 0), TOLERANCE)
+
+
+def limit_claim(rng, family):
+    """The like with N reaching from the estimate to 0 or T, whichever M is
+    nearer to, or ending beside it."""
+    given, n = family.anywhere(rng), draws.tolerance(rng)
+    m, _, scale = given.own()
+    limit = n if 2 * m < H * scale else T - n
+    return given, limit + rng.randrange(-2, 3), n
+
+
+def signed(rng, given, units):
+    """A problem and an estimate of either sign, which now and then is not
+    M's."""
+    bits = draws.estimate(rng, units)
     if is_mirrored(rng, given):
         given, bits = given.mirror(), bits ^ doubles.SIGN
-    return given, bits ^ doubles.SIGN if opposes(rng) else bits, n, d
+    return given, bits ^ doubles.SIGN if opposes(rng) else bits
+
+
+def claim(rng, family):
+    """A problem, estimate, N and depth."""
+    d = draws.depth(rng)
+    given, units, n = turning_claim(rng, family, d)
+    return *signed(rng, given, units), n, d
 
 
 def verdict_case(rng, family):
@@ -85,6 +115,24 @@ def verdict_case(rng, family):
     n = draws.spoil(rng, n, TOLERANCE)
     return wire.judge(family.spoil(rng, given), bits, n,
                       draws.spoil_depth(rng, d))
+
+
+def any_claim(rng, family):
+    """A problem, estimate and N, drawn in any of the three ways."""
+    way = rng.randrange(5)
+    if way == 0:
+        given, units, n = limit_claim(rng, family)
+    elif way < 3:
+        given, units, n = rooted_claim(rng, family)
+    else:
+        given, units, n = turning_claim(rng, family, draws.depth(rng))
+    return *signed(rng, given, units), n
+
+
+def settle_case(rng, family):
+    given, bits, n = any_claim(rng, family)
+    return wire.settle(family.spoil(rng, given), bits,
+                       draws.spoil(rng, n, TOLERANCE))
 
 
 def record(rng):
@@ -120,6 +168,7 @@ def of_both(case):
 
 GRID_END, DOUBLE_END = of_both(end_case)
 GRID_VERDICT, DOUBLE_VERDICT = of_both(verdict_case)
+GRID_SETTLE, DOUBLE_SETTLE = of_both(settle_case)
 GRID_ENCLOSURE, DOUBLE_ENCLOSURE = of_both(enclosure_case)
 GRID_PROPOSAL, DOUBLE_PROPOSAL = of_both(proposal_case)
 
@@ -129,15 +178,18 @@ KINDS = {
     "sine": (sine_case, 80_000, 10_000),
     "ends": (GRID_END, 200_000, 10_000),
     "verdicts": (GRID_VERDICT, 200_000, 10_000),
+    "settled": (GRID_SETTLE, 60_000, 10_000),
     "batches": (batch_case, 8_000, 500),
     "enclosures": (GRID_ENCLOSURE, 20_000, 1_000),
     "proposals": (GRID_PROPOSAL, 20_000, 1_000),
     "double ends": (DOUBLE_END, 50_000, 10_000),
     "double verdicts": (DOUBLE_VERDICT, 50_000, 10_000),
+    "double settled": (DOUBLE_SETTLE, 60_000, 10_000),
     "double enclosures": (DOUBLE_ENCLOSURE, 8_000, 1_000),
     "double proposals": (DOUBLE_PROPOSAL, 8_000, 1_000),
     "spent sine": (partial(sine_case, angle=draw_spent.angle), 20_000, 10_000),
     "spent ends": (partial(end_case, family=draw_spent), 20_000, 10_000),
     "spent enclosures": (partial(enclosure_case, family=draw_spent), 1_000,
                          500),
+    "spent settled": (partial(settle_case, family=draw_spent), 10_000, 5_000),
 }

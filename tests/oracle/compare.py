@@ -6,7 +6,8 @@ SEED is a whole number, or 'time' for one from the clock. DRIVER is the
 command that runs driver.c linked with the library. Any difference is printed
 with its case, and the exit status is then 1. So it is where too few of the
 random cases or of the exact facts had a negative M, too few pairs of M and e
-as doubles were drawn for either, or too few facts were of spent terms.
+as doubles were drawn for either, too few facts were of spent terms or of
+settled claims, or too few random claims were settled with one of the answers.
 """
 import random
 import sys
@@ -21,6 +22,7 @@ import edges
 import facts
 import records
 import rules
+import settle
 import stated
 import stated_spent
 import wire
@@ -32,8 +34,11 @@ SHOWN = 20
 # a negative M; and different pairs of doubles, in the cases and the facts.
 NEGATIVE_LEAST = 100_000
 PAIRS_LEAST = 100_000
-# Exact facts of spent terms that each run has to have.
+# Exact facts of spent terms that each run has to have, and of settled claims.
 SPENT_LEAST = 20_000
+SETTLED_LEAST = 100_000
+# Random claims of each entry that R62 has to settle with each of its answers.
+ANSWER_LEAST = 200
 
 RULES = {
     wire.SINE: lambda c: rules.sine(c.x, c.depth),
@@ -42,6 +47,7 @@ RULES = {
     wire.ENCLOSE: lambda c: rules.enclose(c.given, c.depth),
     wire.PROPOSE: lambda c: rules.propose(c.given),
     wire.JUDGE: lambda c: rules.judge(c.given, c.bits, c.n, c.depth),
+    wire.SETTLE: lambda c: rules.settle(c.given, c.bits, c.n),
     wire.BATCH: lambda c: (*records.judge_claims(
         c.claims, c.answers, c.answers_len), c.claims),
 }
@@ -50,18 +56,21 @@ RULES = {
 @dataclass
 class Found:
     """What was counted, how much of that had a negative M, the different
-    pairs of doubles, and what is wrong. Of facts only those pairs count that
-    were held against the true root."""
+    pairs of doubles, what is wrong, and how many claims an entry settled with
+    each answer. Of facts only those pairs count that were held against the
+    true root."""
     counts: Counter = field(default_factory=Counter)
     negative: int = 0
     pairs: set = field(default_factory=set)
     faults: list = field(default_factory=list)
+    settled: Counter = field(default_factory=Counter)
 
     def add(self, other):
         self.counts += other.counts
         self.negative += other.negative
         self.pairs |= other.pairs
         self.faults += other.faults
+        self.settled += other.settled
 
 
 def pairs_in(every_given):
@@ -86,12 +95,15 @@ def differences(call, wanted, got):
 def compare(driver, calls):
     """Each call by the rules and by the library. Calls with buffers are not
     counted as having a negative M."""
-    faults = []
+    faults, settled = [], Counter()
     for call, got in zip(calls, wire.ask(driver, calls)):
-        faults += differences(call, RULES[call.entry](call), got)
+        wanted = RULES[call.entry](call)
+        faults += differences(call, wanted, got)
+        if call.entry == wire.SETTLE:
+            settled[wire.name(call), wanted[1:]] += 1
     return Found(Counter(map(wire.name, calls)),
                  sum(call.given.negative for call in calls),
-                 pairs_in(call.given for call in calls), faults)
+                 pairs_in(call.given for call in calls), faults, settled)
 
 
 def compare_stated(driver):
@@ -150,9 +162,16 @@ def pieces(driver, seed):
                 yield driver, seed, group, kind, number, each
 
 
-def spent_facts(totals):
-    """How many of the exact facts were of spent terms."""
-    return sum(totals["exact"].counts[kind] for kind in facts.SPENT_KINDS)
+def facts_of(totals, kinds):
+    """How many of the exact facts were of these kinds."""
+    return sum(totals["exact"].counts[kind] for kind in kinds)
+
+
+def answers(settled, name):
+    """How many claims an entry settled with each answer: words and number."""
+    for verdict, depth in settle.ANSWERS:
+        yield (f"{rules.WORDS[verdict]} at depth {depth}",
+               settled[name, (verdict, depth)])
 
 
 def too_few(totals):
@@ -160,9 +179,22 @@ def too_few(totals):
     wanted = [(group, *rest) for group in ("random", "exact") for rest in (
         (totals[group].negative, NEGATIVE_LEAST, "negative M"),
         (len(totals[group].pairs), PAIRS_LEAST, "doubles"))]
-    wanted.append(("exact", spent_facts(totals), SPENT_LEAST, "spent terms"))
+    wanted += [("exact", facts_of(totals, kinds), least, what)
+               for kinds, least, what in (
+                   (facts.SPENT_KINDS, SPENT_LEAST, "spent terms"),
+                   (facts.SETTLED_KINDS, SETTLED_LEAST, "settled claims"))]
+    wanted += [("random", count, ANSWER_LEAST, f"{name} {words}")
+               for name in settle.ENTRIES
+               for words, count in answers(totals["random"].settled, name)]
     return [f"too few {group} checks with {what}: {count:,}"
             for group, count, least, what in wanted if count < least]
+
+
+def report_settled(settled):
+    for name in settle.ENTRIES:
+        parts = (f"{count:,} {words}"
+                 for words, count in answers(settled, name))
+        print(f"compare: random cases of {name}: {', '.join(parts)}")
 
 
 def report(totals, faults, seconds):
@@ -177,7 +209,10 @@ def report(totals, faults, seconds):
     print(f"compare: different pairs of doubles: {len(random_found.pairs):,} "
           f"in random cases, {len(edge.pairs):,} in edge cases and "
           f"{len(exact.pairs):,} held against the true root in exact facts")
-    print(f"compare: with spent terms: {spent_facts(totals):,} exact facts")
+    report_settled(random_found.settled)
+    print(f"compare: exact facts of spent terms: "
+          f"{facts_of(totals, facts.SPENT_KINDS):,}, of settled claims: "
+          f"{facts_of(totals, facts.SETTLED_KINDS):,}")
     for sentence in faults[:SHOWN]:
         print(f"compare: DIFFERENT: {sentence}")
     if len(faults) > SHOWN:

@@ -13,15 +13,17 @@ import draw_grid
 import draws
 import wire
 from given import Doubles, Grid
+from rules import CONFIRMED, UNDECIDED
 
 # As in mirrors.py.
 ROUND = ((cases.GRID_END, 7), (cases.GRID_VERDICT, 7),
          (cases.GRID_ENCLOSURE, 3), (cases.GRID_PROPOSAL, 2))
+SETTLED_ROUND = ((cases.GRID_SETTLE, 1),)
 
 
-def grid_points(ask, rng, count):
+def grid_points(ask, rng, count, kinds):
     """Calls of the grid, and the same numbers as doubles."""
-    each = [kind for kind, often in ROUND for _ in range(often)]
+    each = [kind for kind, often in kinds for _ in range(often)]
     drawn = [each[number % len(each)](rng) for number in range(count)]
     same = [call._replace(given=call.given.as_doubles()) for call in drawn]
     for call, reply, got in zip(same, ask(drawn), ask(same)):
@@ -85,3 +87,30 @@ def enclosures(ask, rng, count):
         yield (given, found == wanted,
                f"enclosure {found} at depth {d}, the grid's are {below} of M "
                f"rounded down and {above} of M rounded up")
+
+
+def agrees(cell, corners):
+    """Whether a cell's settled claim is what its corners' make it. A cell is
+    Confirmed where every corner is, and Refuted where all are on one side, by
+    the last depth that one of them needs."""
+    verdicts = {corner[:2] for corner in corners}
+    if cell[:2] == (0, UNDECIDED):
+        return verdicts != {(0, CONFIRMED)}
+    return verdicts == {cell[:2]} and max(corners) == cell
+
+
+def settled(ask, rng, count):
+    """One claim about a cell and about its corners."""
+    drawn, calls = [], []
+    for _ in range(count):
+        given, bits, n = cases.any_claim(rng, draw_doubles)
+        corners = grid_corners(given)
+        if corners:
+            problems = [given, *corners]
+            drawn.append((problems, bits, n))
+            calls += [wire.settle(each, bits, n) for each in problems]
+    replies = iter(ask(calls))
+    for problems, bits, n in drawn:
+        cell, *corners = (next(replies)[:3] for _ in problems)
+        yield (problems[0], agrees(cell, corners),
+               f"bits {bits:016x} N={n}: {cell}, corners {corners}")

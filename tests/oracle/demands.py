@@ -245,19 +245,25 @@ def contradicts(root, units, n, verdict):
     return root.lies_within(low, high)
 
 
-def settled_facts(claim, found, units):
+def true_verdict(given, units, n, verdict, case):
+    """Confirmed or Refuted, held against the exact inequalities and the true
+    root."""
+    yield (given, meant(given, floor(units), ceil(units), n, verdict),
+           f"untrue: {case}")
+    root = roots.bracket(given)
+    yield (given, not contradicts(root, units, n, verdict),
+           f"the root is elsewhere: {case}", root)
+
+
+def claim_facts(claim, found, units):
     """Of one claim, with the verdict at every depth."""
     given, _, n = claim
-    settled = [v for v in found if v != rules.UNDECIDED]
+    decided = [v for v in found if v != rules.UNDECIDED]
     case = f"verdicts {found} on {units} units and N={n}"
-    yield given, found[len(found) - len(settled):] == settled, f"lost: {case}"
-    yield given, len(set(settled)) <= 1, f"both: {case}"
-    root = roots.bracket(given) if settled else None
-    for v in set(settled):
-        yield (given, meant(given, floor(units), ceil(units), n, v),
-               f"untrue: {case}")
-        yield (given, not contradicts(root, units, n, v),
-               f"the root is elsewhere: {case}", root)
+    yield given, found[len(found) - len(decided):] == decided, f"lost: {case}"
+    yield given, len(set(decided)) <= 1, f"both: {case}"
+    for v in set(decided):
+        yield from true_verdict(given, units, n, v, case)
 
 
 def in_span(given, bits):
@@ -281,5 +287,5 @@ def verdicts(ask, rng, count, family):
                f"codes {codes} for bits {claim[1]}")
         if units is not None:
             seen.update(found)
-            yield from settled_facts(claim, list(found), units)
+            yield from claim_facts(claim, list(found), units)
     yield None, len(seen) == 3, f"of three verdicts only {seen} occurred"

@@ -1,6 +1,6 @@
 """Single numbers, drawn from a seeded generator."""
 import doubles
-from limits import DEPTHS, T
+from limits import DEPTHS, T, TOLERANCE
 
 # The signed numbers of 32 bits.
 LEAST, GREATEST = -2 ** 31, 2 ** 31 - 1
@@ -28,6 +28,10 @@ def angle(rng):
 
 def depth(rng):
     return rng.randrange(1, 6)
+
+
+def tolerance(rng):
+    return rng.choice((0, 1, small(rng, 16), rng.randrange(TOLERANCE + 1)))
 
 
 def spoil(rng, value, limit, *others):

@@ -19,12 +19,14 @@ enum entry {
     ENCLOSE,
     PROPOSE,
     JUDGE,
+    SETTLE,
     BATCH,
     LOWER_END_DOUBLE,
     UPPER_END_DOUBLE,
     ENCLOSE_DOUBLE,
     PROPOSE_DOUBLE,
-    JUDGE_DOUBLE
+    JUDGE_DOUBLE,
+    SETTLE_DOUBLE
 };
 
 struct request {
@@ -109,6 +111,13 @@ static struct reply of_verdict(struct stripeawn_verdict s)
     return reply;
 }
 
+static struct reply of_settled(struct stripeawn_settled s)
+{
+    struct reply reply = { s.code, s.verdict, s.depth, 0, 0 };
+
+    return reply;
+}
+
 /* a is the length of the claims, n that of the answers, depth their room. */
 static void answer_batch(const struct request *r)
 {
@@ -146,6 +155,9 @@ static struct reply ask_double(const struct request *r)
     case JUDGE_DOUBLE:
         return of_verdict(stripeawn_judge_double(m, e, double_of(r->bits),
                                                  r->n, r->depth));
+    case SETTLE_DOUBLE:
+        return of_settled(
+            stripeawn_settle_double(m, e, double_of(r->bits), r->n));
     }
     fail("an unknown entry");
     return none;
@@ -167,6 +179,9 @@ static struct reply ask(const struct request *r)
     case JUDGE:
         return of_verdict(stripeawn_judge(r->m, r->a, double_of(r->bits),
                                           r->n, r->depth));
+    case SETTLE:
+        return of_settled(
+            stripeawn_settle(r->m, r->a, double_of(r->bits), r->n));
     }
     return ask_double(r);
 }

@@ -2,13 +2,15 @@
 double, batches whole, damaged and truncated.
 
 What is given is of the grid or doubles, and the cases beside it are alike.
-Those where sine's terms are spent are in spent.py.
+Those where sine's terms are spent are in spent.py, and in settle.py those
+where a claim that is settled without a depth is about to turn.
 """
 from functools import partial
 from itertools import product
 
 import doubles
 import records
+import settle
 import spent
 import wire
 from draws import GREATEST, LEAST
@@ -81,9 +83,10 @@ def proposals(every_given):
     return [wire.propose(given) for given in every_given()]
 
 
-def verdicts(every_given, tolerances, depths):
-    every = product(every_given(), doubles.every_kind(), tolerances, depths)
-    return [wire.judge(*inputs) for inputs in every]
+def claims(entry, every_given, *others):
+    """Of the judge, or of the one that takes no depth."""
+    every = product(every_given(), doubles.every_kind(), *others)
+    return [entry(*inputs) for inputs in every]
 
 
 def every_record():
@@ -133,16 +136,20 @@ def near_parabolic_doubles():
 
 def near_parabolic(every_given):
     """Every entry, about roots at e = 1 and M = 1 and 2."""
-    every = every_given()
-    cases = proposals(every_given) + enclosures(every_given, range(1, 6))
-    for given, depth in product(every, range(1, 6)):
+    depths = range(1, 6)
+    cases = proposals(every_given) + enclosures(every_given, depths)
+    for given in every_given():
         sign = -1 if given.negative else 1
         cases += [side(sign * x, given, depth)
                   for side in (wire.lower, wire.upper)
-                  for x in (1, 2, 756_153, 756_154, 952_743, 952_744)]
-        cases += [wire.judge(given, doubles.of_units(sign * x), n, depth)
-                  for x in (0, 1, 524_288, 756_153, 952_744)
-                  for n in (0, 1, 1_000, 65_535)]
+                  for x in (1, 2, 756_153, 756_154, 952_743, 952_744)
+                  for depth in depths]
+        near = [(given, doubles.of_units(sign * x), n)
+                for x in (0, 1, 524_288, 756_153, 952_744)
+                for n in (0, 1, 1_000, 65_535)]
+        cases += [wire.judge(*claim, depth) for claim in near
+                  for depth in depths]
+        cases += [wire.settle(*claim) for claim in near]
     return cases
 
 
@@ -151,14 +158,20 @@ KINDS = {
     "ends": partial(ends, on_grid, ANGLES, DEPTHS),
     "enclosures": partial(enclosures, on_grid, DEPTHS),
     "proposals": partial(proposals, on_grid),
-    "verdicts": partial(verdicts, on_grid, TOLERANCES, NEAR_DEPTHS),
+    "verdicts": partial(claims, wire.judge, on_grid, TOLERANCES, NEAR_DEPTHS),
+    "settled": partial(claims, wire.settle, on_grid, TOLERANCES),
+    "settled at limits": settle.limit_edges,
+    "settled at turns": settle.turning_edges,
     "batches": batches,
     "near parabolic": partial(near_parabolic, near_parabolic_grid),
     "double ends": partial(ends, off_grid, (-1, 0, 1, ONE, H, T, T + 1, -T),
                            (0, 1, 3, 5, 6)),
     "double enclosures": partial(enclosures, off_grid, NEAR_DEPTHS),
     "double proposals": partial(proposals, off_grid),
-    "double verdicts": partial(verdicts, off_grid, (0, 65_535, 65_536), (5,)),
+    "double verdicts": partial(claims, wire.judge, off_grid,
+                               (0, 65_535, 65_536), (5,)),
+    "double settled": partial(claims, wire.settle, off_grid,
+                              (0, 65_535, 65_536)),
     "double near parabolic": partial(near_parabolic, near_parabolic_doubles),
     "spent sine": spent.sine_edges,
     "spent ends": spent.end_edges,

@@ -6,6 +6,7 @@ import demands
 import draw_doubles
 import draw_grid
 import mirrors
+import settle
 import spent
 
 
@@ -13,12 +14,14 @@ def of(family, check):
     return partial(check, family=family)
 
 
-def round_of(kinds):
-    return partial(mirrors.mirrors, kinds=kinds)
+def round_of(kinds, check=mirrors.mirrors):
+    return partial(check, kinds=kinds)
 
 
-# The kinds that are of spent terms, R61.
+# The kinds that are of spent terms, R61, and those of settled claims, R62.
 SPENT_KINDS = ("spent sines", "spent ends")
+SETTLED_KINDS = ("settled", "double settled", "settled mirrors",
+                 "settled grid points", "corners' settled")
 
 # What checks each kind, how many cases a run has, how many make one piece of
 # work.
@@ -38,9 +41,16 @@ KINDS = {
     "double proposals": (of(draw_doubles, demands.proposals), 40_000, 2_000),
     "double verdicts": (of(draw_doubles, demands.verdicts), 48_000, 2_000),
     "double mirrors": (round_of(mirrors.DOUBLE_ROUND), 10_000, 2_000),
-    "grid points": (corners.grid_points, 10_000, 2_000),
+    "grid points": (round_of(corners.ROUND, corners.grid_points), 10_000,
+                    2_000),
     "corners' ends": (corners.ends, 10_000, 2_000),
     "corners' enclosures": (corners.enclosures, 4_000, 1_000),
     "spent sines": (spent.sines, 5_000, 2_500),
     "spent ends": (spent.ends, 5_000, 2_500),
+    "settled": (of(draw_grid, settle.settled), 16_000, 4_000),
+    "double settled": (of(draw_doubles, settle.settled), 16_000, 4_000),
+    "settled mirrors": (round_of(mirrors.SETTLED_ROUND), 8_000, 2_000),
+    "settled grid points": (round_of(corners.SETTLED_ROUND,
+                                     corners.grid_points), 8_000, 2_000),
+    "corners' settled": (corners.settled, 8_000, 2_000),
 }

@@ -19,6 +19,7 @@ GRID_ROUND = ((cases.GRID_END, 7), (cases.GRID_VERDICT, 7),
               (cases.batch_case, 1))
 DOUBLE_ROUND = ((cases.DOUBLE_END, 7), (cases.DOUBLE_VERDICT, 7),
                 (cases.DOUBLE_ENCLOSURE, 3), (cases.DOUBLE_PROPOSAL, 2))
+SETTLED_ROUND = ((cases.GRID_SETTLE, 1), (cases.DOUBLE_SETTLE, 1))
 
 
 def has_mirror(given, x=0):
@@ -40,7 +41,7 @@ def mirror_call(call):
     given = call.given.mirror()
     if call.entry == wire.BATCH:
         return call._replace(claims=mirror_claims(call.claims))
-    if call.entry == wire.JUDGE:
+    if call.entry in (wire.JUDGE, wire.SETTLE):
         return call._replace(given=given, bits=call.bits ^ doubles.SIGN)
     return call._replace(entry=OTHER_ENTRY.get(call.entry, call.entry),
                          given=given, x=-call.x)

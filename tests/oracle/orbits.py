@@ -22,14 +22,13 @@ import doubles
 import roots
 import wire
 from given import Doubles, Grid
-from rules import CONFIRMED, REFUTED, UNDECIDED
+from rules import REFUTED, WORDS
 
 ORBITS = 300
 DEPTH = 5
 TOLERANCE = 1_000
 # The orbit whose verdicts are printed: M in degrees, and e.
 SHOWN = (1e-5, 1.0)
-WORDS = {CONFIRMED: "Confirmed", REFUTED: "Refuted", UNDECIDED: "Undecided"}
 
 
 class Orbit(NamedTuple):

@@ -14,6 +14,7 @@ from limits import DEPTHS, T, TOLERANCE, UNIT
 
 # R45
 CONFIRMED, REFUTED, UNDECIDED = 16, 17, 18
+WORDS = {CONFIRMED: "Confirmed", REFUTED: "Refuted", UNDECIDED: "Undecided"}
 
 
 # ---- Sine in whole numbers -------------------------------------------------
@@ -234,3 +235,15 @@ def judge(given, bits, n, depth):
     if is_refuted(cell, *units, n, depth):
         return 0, REFUTED
     return 0, UNDECIDED
+
+
+def settle(given, bits, n):
+    """R62: the judge at each depth in turn, up to the first that decides. Of
+    its codes only 3 is about the depth."""
+    for depth in DEPTHS:
+        code, verdict = judge(given, bits, n, depth)
+        if code:
+            return code, 0, 0
+        if verdict != UNDECIDED:
+            break
+    return 0, verdict, depth

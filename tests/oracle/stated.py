@@ -6,6 +6,7 @@ of the grid also of the same numbers as doubles.
 """
 import doubles
 import stated_doubles
+import stated_settle
 import stated_spent
 import wire
 from draws import GREATEST, LEAST
@@ -136,6 +137,7 @@ def stated():
     batches = [(BATCH, (0, 2, b"\x10\x12\xEE", BATCH.claims)),
                (NEGATIVE_BATCH, (0, 6, b"\x10\x04\x10\x01\x01\x11\xEE",
                                  NEGATIVE_BATCH.claims))]
-    grid = ends() + enclosures() + circles() + verdicts()
+    grid = (ends() + enclosures() + circles() + verdicts()
+            + stated_settle.on_grid())
     return (sines + stated_spent.sines() + batches + grid + as_doubles(grid)
-            + stated_doubles.stated())
+            + stated_doubles.stated() + stated_settle.off_grid())

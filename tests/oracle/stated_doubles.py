@@ -71,6 +71,7 @@ def refused():
     for m, e, code in REFUSED:
         given = Doubles(m, e)
         yield wire.propose(given), (code, 0, 0, 0, 0)
+        yield wire.settle(given, NANS[0], 65_536), (code, 0, 0)
         for d in (0, 5):
             yield wire.enclose(given, d), (code, 0, 0)
             yield wire.judge(given, NANS[0], 65_536, d), (code, 0)
@@ -105,6 +106,8 @@ def zeros():
             yield wire.lower(-1, given, 5), (10, 0)
             yield wire.judge(given, SIGN, 0, 5), (0, CONFIRMED)
             yield wire.judge(given, SIGN + 1, 0, 5), (4, 0)
+            yield wire.settle(given, SIGN, 0), (0, CONFIRMED, 1)
+            yield wire.settle(given, SIGN + 1, 0), (4, 0, 0)
 
 
 def stated():

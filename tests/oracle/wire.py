@@ -7,9 +7,10 @@ from given import Doubles, Grid
 
 # The driver's order. Behind these come the entries of doubles in the same
 # order, each BATCH further on than its entry of the grid.
-SINE, LOWER_END, UPPER_END, ENCLOSE, PROPOSE, JUDGE, BATCH = range(7)
+(SINE, LOWER_END, UPPER_END, ENCLOSE, PROPOSE, JUDGE, SETTLE,
+ BATCH) = range(8)
 NAMES = ("sine", "lower_end", "upper_end", "enclose", "propose", "judge",
-         "judge_claims")
+         "settle", "judge_claims")
 
 # M and X are signed, but for the X of sine.
 REQUEST = struct.Struct("<I2i3I3Q")
@@ -60,6 +61,10 @@ def propose(given):
 
 def judge(given, bits, n, depth):
     return Call(JUDGE, given, 0, n, depth, bits)
+
+
+def settle(given, bits, n):
+    return Call(SETTLE, given, 0, n, 0, bits)
 
 
 def name(call):
