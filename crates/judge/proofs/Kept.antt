@@ -142,6 +142,11 @@ refuted-chosen true b f t = absurd (f tt)
 refuted-chosen false true f t = refl
 refuted-chosen false false f t = absurd t
 
+none-chosen : (a b : Bool) → (T a → ⊥) → (T b → ⊥) → cond a Confirmed (cond b Refuted Undecided) ≡ Undecided
+none-chosen true b f g = absurd (f tt)
+none-chosen false true f g = absurd (g tt)
+none-chosen false false f g = refl
+
 module _ (c : Cell) (u : Units) (n d : ℕ) where
   pub is-confirmed : verdictOf c d u n ≡ Confirmed → T (confirmed c d u n)
   unfolding verdictOf
@@ -151,14 +156,26 @@ module _ (c : Cell) (u : Units) (n d : ℕ) where
   unfolding verdictOf
   is-refuted v = refuted-test (confirmed c d u n) (refuted c d u n) v
 
+  -- the verdict by the tests behind it
+  pub verdict-confirmed : T (confirmed c d u n) → verdictOf c d u n ≡ Confirmed
+  unfolding verdictOf
+  verdict-confirmed t = confirmed-chosen (confirmed c d u n) (refuted c d u n) t
+
+  pub verdict-refuted : (T (confirmed c d u n) → ⊥) → T (refuted c d u n) → verdictOf c d u n ≡ Refuted
+  unfolding verdictOf
+  verdict-refuted f t = refuted-chosen (confirmed c d u n) (refuted c d u n) f t
+
+  pub verdict-undecided : (T (confirmed c d u n) → ⊥) → (T (refuted c d u n) → ⊥) → verdictOf c d u n ≡ Undecided
+  unfolding verdictOf
+  verdict-undecided f g = none-chosen (confirmed c d u n) (refuted c d u n) f g
+
+module _ (c : Cell) (u : Units) (n d : ℕ) where
   -- R47: a verdict is kept at every greater depth
   pub confirmed-kept : (e : ℕ) → d ≤ e → verdictOf c d u n ≡ Confirmed → verdictOf c e u n ≡ Confirmed
-  unfolding verdictOf
-  confirmed-kept e h v = confirmed-chosen (confirmed c e u n) (refuted c e u n) (confirmed-deeper c u n h (is-confirmed v))
+  confirmed-kept e h v = verdict-confirmed c u n e (confirmed-deeper c u n h (is-confirmed c u n d v))
 
   pub refuted-kept : (e : ℕ) → d ≤ e → e ≤ depths → CellIn c → u .ceiling ≤ T-units
       → verdictOf c d u n ≡ Refuted → verdictOf c e u n ≡ Refuted
-  unfolding verdictOf
   refuted-kept e h j i top v =
-      let t = refuted-deeper c u n h (is-refuted v) in
-      refuted-chosen (confirmed c e u n) (refuted c e u n) (λ s. never-both c u n i top e e j j s t) t
+      let t = refuted-deeper c u n h (is-refuted c u n d v) in
+      verdict-refuted c u n e (λ s. never-both c u n i top e e j j s t) t

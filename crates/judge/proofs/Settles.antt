@@ -1,6 +1,6 @@
 -- R62: which depth is the first to decide, from the least depths of the tests behind a verdict; and that its verdict is the last
 -- depth's. Assumes nothing.
-use mathlib.Core.Path.{_≡_, refl, sym, ap, ap₂, subst}
+use mathlib.Core.Path.{_≡_, refl, sym, ap, subst}
 use mathlib.Core.Bool.{Bool, true, false, not, cond, _||_}
 use mathlib.Core.Logic.{_⊎_, inl, inr, ⊎-elim}
 use Prim.Native.Nat.{ℕ, _+_, _-_, _≤_, _<_}
@@ -8,8 +8,8 @@ use native.Mathlib.Omega.{arith}
 use native.Mathlib.Nat.{eq-or-lt-of-le}
 use lib.Dec.{T, leb, leb→le, T-not, not-T}
 use Rattle.whole.specs.First.{firstFrom}
-use Rattle.whole.proofs.Bools.{passes, both-parts, either-part, either}
-use Rattle.whole.proofs.First.{first, only}
+use Rattle.whole.proofs.Bools.{both-parts, either-part, either}
+use Rattle.whole.proofs.First.{First, first, only}
 use Rattle.grid.specs.Grid.{T-units, depths}
 use Rattle.orbit.specs.Cell.{CellIn}
 use Rattle.orbit.specs.declared.Cell.{Cell}
@@ -24,7 +24,7 @@ use Rattle.judge.specs.Limits.{CaseIn}
 use Rattle.judge.specs.declared.Case.{Case}
 use Rattle.judge.specs.declared.Verdict.{Verdict}
 use Rattle.judge.specs.declared.Verdict.the-variants.{Confirmed, Refuted, Undecided}
-use Rattle.judge.proofs.Kept.{confirmed-deeper, above-deeper, below-deeper, never-both, confirmed-kept, refuted-kept}
+use Rattle.judge.proofs.Kept.{confirmed-deeper, above-deeper, below-deeper, never-both, verdict-refuted, verdict-undecided, confirmed-kept, refuted-kept}
 
 -- what a depth decides, it confirms or refutes
 decides-either : (a b : Bool) → decides (cond a Confirmed (cond b Refuted Undecided)) ≡ (a || b)
@@ -145,24 +145,18 @@ module _ (c : Cell) (u : Units) (n : ℕ) where
           })
           (λ i. confirmed-decides k (h .here))
 
-  -- ---- the verdict by the tests behind it
+  -- ---- the verdict where an end refutes, and where nothing decides
 
-  module _ (d : ℕ) where
-    chosen : Bool → Bool → Verdict
-    chosen a b = cond a Confirmed (cond b Refuted Undecided)
+  module _ (d : ℕ) (p : confirmed c d u n ≡ false) where
+    pub refuted-verdict : T (lowerAbove c d u n) ⊎ T (upperBelow c d u n) → verdictOf c d u n ≡ Refuted
+    unfolding refuted
+    refuted-verdict t = verdict-refuted c u n d (subst T p) (either (lowerAbove c d u n) (upperBelow c d u n) t)
 
-    pub confirmed-verdict : T (confirmed c d u n) → Confirmed ≡ verdictOf c d u n
-    unfolding verdictOf chosen
-    confirmed-verdict t = ap (λ (a : Bool). chosen a (refuted c d u n)) (passes (confirmed c d u n) t)
-
-    pub refuted-verdict : confirmed c d u n ≡ false → T (lowerAbove c d u n) ⊎ T (upperBelow c d u n) → Refuted ≡ verdictOf c d u n
-    unfolding verdictOf refuted chosen
-    refuted-verdict e t =
-        ap₂ chosen (sym e) (passes (refuted c d u n) (either (lowerAbove c d u n) (upperBelow c d u n) t))
-
-    pub no-verdict : confirmed c d u n ≡ false → lowerAbove c d u n ≡ false → upperBelow c d u n ≡ false → Undecided ≡ verdictOf c d u n
-    unfolding verdictOf refuted chosen
-    no-verdict e a b = ap₂ chosen (sym e) (sym (ap₂ _||_ a b))
+    pub no-verdict : lowerAbove c d u n ≡ false → upperBelow c d u n ≡ false → verdictOf c d u n ≡ Undecided
+    unfolding refuted
+    no-verdict a b =
+        verdict-undecided c u n d (subst T p)
+        (λ t. ⊎-elim (subst T a) (subst T b) (either-part (lowerAbove c d u n) (upperBelow c d u n) t))
 
   -- ---- what decides is kept
 
@@ -172,38 +166,29 @@ module _ (c : Cell) (u : Units) (n : ℕ) where
   decided-kept i w d e h j Refuted p t = refuted-kept c u n d e h j i (w .ceiling) p
   decided-kept i w d e h j Undecided p t = absurd t
 
-  -- from the first depth that decides on, every depth has its verdict
-  pub settled-on : CellIn c → UnitsIn u → (last d : ℕ) → last ≤ depths → firstFrom decidesAt 1 (last - 1) ≤ d → d ≤ last
-      → verdictOf c d u n ≡ verdictOf c (firstFrom decidesAt 1 (last - 1)) u n
-  settled-on i w last d j h k =
-      let r = first decidesAt 1 (last - 1) in
-      let s = firstFrom decidesAt 1 (last - 1) in
-      ⊎-elim (λ e. ap (λ (l : ℕ). verdictOf c l u n) (sym e))
-      (λ l. decided-kept i w s d h (omega arith) (verdictOf c s u n) refl (r .here (omega arith)))
-      (eq-or-lt-of-le h)
-
 -- ---- of a case: the depth is one of those tried, and every depth from it on has its verdict
 
 module _ (k : Case) (h : CaseIn k) where
-  pub depth-some : 1 ≤ settledDepth k
+  searched : First (λ d. decides (verdictAt k d)) 1 (k .problem .depth .pairs - 1) (settledDepth k)
   unfolding settledDepth
-  depth-some = first (decidesAt (k .problem .cell) (k .units) (k .tolerance)) 1 (k .problem .depth .pairs - 1) .from
+  searched = first (λ d. decides (verdictAt k d)) 1 (k .problem .depth .pairs - 1)
+
+  pub depth-some : 1 ≤ settledDepth k
+  depth-some = searched .from
 
   pub depth-few : settledDepth k ≤ k .problem .depth .pairs
-  unfolding settledDepth
-  depth-few =
-      let t = first (decidesAt (k .problem .cell) (k .units) (k .tolerance)) 1 (k .problem .depth .pairs - 1) .to in
-      omega (arith, h .problem .depth .some)
+  depth-few = let t = searched .to in omega (arith, h .problem .depth .some)
 
   pub before-depth : (d : ℕ) → 1 ≤ d → d < settledDepth k → T (not (decides (verdictAt k d)))
-  unfolding settledDepth
-  before-depth = first (decidesAt (k .problem .cell) (k .units) (k .tolerance)) 1 (k .problem .depth .pairs - 1) .before
+  before-depth = searched .before
 
   pub at-depth : settledDepth k < k .problem .depth .pairs → T (decides (verdictAt k (settledDepth k)))
-  unfolding settledDepth
-  at-depth l = first (decidesAt (k .problem .cell) (k .units) (k .tolerance)) 1 (k .problem .depth .pairs - 1) .here (omega arith)
+  at-depth l = searched .here (omega arith)
 
   pub from-depth : (d : ℕ) → settledDepth k ≤ d → d ≤ k .problem .depth .pairs → verdictAt k d ≡ verdictAt k (settledDepth k)
-  unfolding settledDepth
-  from-depth d =
-      settled-on (k .problem .cell) (k .units) (k .tolerance) (h .problem .cell) (h .units) (k .problem .depth .pairs) d (h .problem .depth .few)
+  from-depth d l m =
+      ⊎-elim (λ e. ap (verdictAt k) (sym e))
+      (λ s.
+      decided-kept (k .problem .cell) (k .units) (k .tolerance) (h .problem .cell) (h .units) (settledDepth k) d l
+      (omega (arith, h .problem .depth .few)) (verdictAt k (settledDepth k)) refl (at-depth (omega arith)))
+      (eq-or-lt-of-le l)

@@ -13,7 +13,8 @@ use Rattle.judge.specs.Decision.{decision}
 use Rattle.judge.specs.declared.Case.{Case}
 use Rattle.judge.specs.declared.Decision.{Decision}
 use Rattle.judge.specs.declared.Verdict.{Verdict}
-use Rattle.judge.proofs.Settles.{confirmed-verdict, refuted-verdict, no-verdict, by-confirmed, by-above, by-below, by-none}
+use Rattle.judge.proofs.Kept.{verdict-confirmed}
+use Rattle.judge.proofs.Settles.{refuted-verdict, no-verdict, by-confirmed, by-above, by-below, by-none}
 use Rattle.judge.proofs.decide.Statement.{statement}
 use Rattle.judge.proofs.decide.Tie as tie
 
@@ -30,8 +31,8 @@ abbrev last : Case → ℕ
 last k = k .problem .depth .pairs
 
 -- a verdict and its depth
-both : {v : Verdict} {d : ℕ} (k : Case) → v ≡ caseVerdict k → settledDepth k ≡ d → _≡_ {A = Decision} record { verdict = v; depth = d } (decision k)
-both k p q = ap₂ (λ (v : Verdict) (d : ℕ). record { verdict = v; depth = d }) p (sym q)
+both : {v : Verdict} {d : ℕ} (k : Case) → caseVerdict k ≡ v → settledDepth k ≡ d → _≡_ {A = Decision} record { verdict = v; depth = d } (decision k)
+both k p q = sym (ap₂ (λ (v : Verdict) (d : ℕ). record { verdict = v; depth = d }) p q)
 
 -- the tests that failed
 not-confirmed : (c : tie.Else1) → let k = c .before .before .args .k in confirms k (last k) ≡ false
@@ -50,7 +51,7 @@ returns c =
     let s = c .before .before in
     let k = s .args .k in
     let h = says (confirms k) (last k) _ (c .before .confirmed-from .ensures) (s .pre .problem .depth .some) (c .if1 .taken) in
-    both k (confirmed-verdict (k .problem .cell) (k .units) (k .tolerance) (last k) (h .last))
+    both k (verdict-confirmed (k .problem .cell) (k .units) (k .tolerance) (last k) (h .last))
     (by-confirmed (k .problem .cell) (k .units) (k .tolerance) (last k) (s .pre .problem .cell) (s .pre .units) (s .pre .problem .depth .few) _ h)
 
 returns-2 : tie.Need-returns-2
