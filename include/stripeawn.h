@@ -68,6 +68,25 @@
 ** end lies above an accepted upper end of the same M and e, whatever the two
 ** depths.
 **
+** Figures. Where M, of either sign, and e = A / 2^28 below 1 are on the grid,
+** depth 5 keeps to two figures:
+**
+**     e        A            greatest width    least n
+**     0                0                 2          1
+**     0.5      134217728                65         65
+**     0.9      241591910               577        577
+**     0.99     265751101              6337       6337
+**     0.999    268167020             63937      63937
+**
+** (A is 2^28 e rounded down.) The ends of an enclosure are never farther
+** apart than the greatest width. A right answer is confirmed: an estimate
+** from its lower to its upper end is Confirmed with every n from the least n
+** up. A wrong answer is refuted: an estimate that lies n + 1 + 32 e / (1 - e)
+** units or more outside of them is Refuted. For every other A the figures are
+** those of stripeawn_greatest_width and stripeawn_least_n. At e = 1 no figure
+** exists: there the equation is flat at E = 0, and the problem is ill-posed.
+** Off the grid none is promised, as an end has to hold for the whole cell.
+**
 ** Notes on every entry:
 ** 1) A result begins with a code. With a code other than 0 every other
 **    number of the result is 0 and lent buffers are as before the call.
@@ -463,6 +482,55 @@ struct stripeawn_settled stripeawn_settle_double(double m, double e,
 
 struct stripeawn_settled stripeawn_settle(int32_t m, uint32_t a,
                                           double estimate, uint32_t n);
+
+/*
+** stripeawn_greatest_width: how far apart the ends of an enclosure can be.
+** stripeawn_least_n: the least tolerance that confirms every right answer.
+**
+** Given:
+**    a   A, 0 to 2^28; of an e off the grid, 2^28 e rounded down
+** Returned:
+**    the figure, units; 0 where none exists
+** Notes:
+** 1) Both are for M, of either sign, and A on the grid, and for depth 5. With
+**    lower and upper as stripeawn_enclose gives them, and w = upper - lower,
+**        (w - 2) (2^28 - A) < 64 A    wherever w is above 2
+**    and the greatest width is the greatest w that this allows. It is 2 at
+**    A = 0, where w is 0 in fact, and at most 65 where e is at most 1/2.
+** 2) stripeawn_judge confirms every estimate from lower to upper with every n
+**    up to 65535 for which
+**        (n - 1) (2^28 - A) >= 64 A
+**    and the least n is the least of them. With a lesser n it may still do
+**    so.
+** 3) The judge refutes every estimate which, rounded down to f and up to c,
+**    has one of
+**        (lower - (f + n + 1)) (2^28 - A) >= 32 A
+**        ((c - n - 1) - upper) (2^28 - A) >= 32 A
+** 4) No figure exists at A = 2^28, where e = 1, nor above, where A is out of
+**    range. From A = 268173560 up no n that may be given is large enough, and
+**    the least n is 0.
+** 5) The greatest width may be above 2^32, and from A = 268435436 up it is
+**    above T and says nothing.
+*/
+static inline uint64_t stripeawn_greatest_width(uint32_t a)
+{
+    if (a >= STRIPEAWN_A_MAX)
+        return 0;
+    if (a == 0)
+        return 2;
+    return 2 + ((uint64_t)a * 64 - 1) / (STRIPEAWN_A_MAX - a);
+}
+
+static inline uint32_t stripeawn_least_n(uint32_t a)
+{
+    uint64_t room, n;
+
+    if (a >= STRIPEAWN_A_MAX)
+        return 0;
+    room = STRIPEAWN_A_MAX - a;
+    n = 1 + ((uint64_t)a * 64 + (room - 1)) / room;
+    return n <= STRIPEAWN_N_MAX ? (uint32_t)n : 0;
+}
 
 /*
 ** stripeawn_judge_claims: judges every record of a claims file.
