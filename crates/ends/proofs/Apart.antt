@@ -9,7 +9,6 @@ use Rattle.series.specs.Sine.{sine, Lo, Hi, den9}
 use Rattle.series.proofs.Sums.{same, other}
 use Rattle.series.proofs.SineTerms.{sine-divides}
 use Rattle.series.proofs.TermsTrue.{den-pos}
-use Rattle.series.proofs.Next.{drop-last}
 use Rattle.series.proofs.Rise.{sine-rises}
 use Rattle.orbit.specs.Cell.{Orbit, orbitAt, CellIn}
 use Rattle.orbit.specs.declared.Cell.{Cell}
@@ -17,7 +16,7 @@ use Rattle.ends.specs.Ends.{lowerEnd, upperEnd}
 use Rattle.ends.proofs.BothEnds.{Spares}
 use Rattle.ends.proofs.InNaturals.{BelowBy, AboveBy}
 use Rattle.ends.proofs.Corners.{below-corners, above-corners, lesser-mean}
-use Rattle.ends.proofs.Exact.{below-true, above-true}
+use Rattle.ends.proofs.Exact.{below-true, above-true, with-S9}
 
 -- with u = a + b: a times the rise of x - S(x) and b times that of x are all of u, and neither can be undone
 gap : (u a b D X Y M sX oX sY oY : ℕ) → u ≡ a + b → 0 < u → 0 < D → Y < X
@@ -30,15 +29,10 @@ gap u a b D X Y M sX oX sY oY e some den above rise lower upper =
 exact-apart : (o : Orbit) (X Y : ℕ) → o .a ≤ one → X ≤ T-units → BelowBy 0 o X → AboveBy 0 o Y → X ≤ Y
 exact-apart o X Y e w p q = nltb→le Y X (not-T (ltb Y X) (λ t. clash (ltb→lt Y X t)))
   where
-    last : Spares 0 (one * o .m) (one * Y) (o .a) den9 (same sine Y 9) (other sine Y 9)
-    last =
-        let k = drop-last sine sine-divides Y 9 (o .a) (one * Y) (one * o .m) (omega arith) in
-        omega arith
-
     clash : Y < X → ⊥
     clash above =
         gap one (o .a) (one - o .a) den9 X Y (o .m) (same sine X 9) (other sine X 9) (same sine Y 9) (other sine Y 9)
-        (omega arith) (omega arith) (den-pos sine sine-divides 9) above (sine-rises Y X above w) p last
+        (omega arith) (omega arith) (den-pos sine sine-divides 9) above (sine-rises Y X above w) p (with-S9 o Y 0 q)
 
 -- R21: of a cell, at any depths, equal or not: both tests hold at the corner of the least M and the least A
 pub apart : (c : Cell) (X Y d e : ℕ) → CellIn c → X ≤ T-units → Y ≤ T-units → d ≤ depths → e ≤ depths

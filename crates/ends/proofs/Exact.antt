@@ -12,11 +12,11 @@ use Rattle.series.proofs.SineTerms.{sine-divides}
 use Rattle.series.proofs.TermsTrue.{den-pos}
 use Rattle.series.proofs.BoundsTrue.{Lo-true, Hi-true}
 use Rattle.series.proofs.Width.{width-5}
-use Rattle.series.proofs.Next.{drop-last, add-last, S9-parts, S10-parts}
+use Rattle.series.proofs.Next.{drop-last, S9-parts, S10-parts}
 use Rattle.orbit.specs.Cell.{Orbit}
 use Rattle.ends.specs.Ends.{belowAt, aboveAt}
 use Rattle.ends.proofs.BothEnds.{accept, refuse}
-use Rattle.ends.proofs.InNaturals.{BelowBy, AboveBy, below-test, above-test}
+use Rattle.ends.proofs.InNaturals.{BelowBy, AboveBy, OverBy, below-test, above-test}
 
 -- ---- the sine bounds by naturals
 
@@ -42,13 +42,16 @@ module _ (X : ℕ) (within : X ≤ T-units) where
       let h = drop-last sine sine-divides X 9 1 (plus (Hi X depths)) (minus (Hi X depths)) (omega arith) in
       omega (arith, mul-le-mul-right den9 narrow)
 
-  -- S_10 lies at most 32 below Hi: it is above S_9, so above Lo
-  high-near : other sine X 10 + plus (Hi X depths) * den10 ≤ same sine X 10 + minus (Hi X depths) * den10 + 32 * den10
-  high-near =
-      let h = add-last sine X 9 1 (plus (Lo X depths)) (minus (Lo X depths)) (let t = low-truth depths (omega arith) in omega arith) in
-      omega (arith, mul-le-mul-right den10 narrow)
+  -- and at most 32 below Hi: it is above Lo
+  high-near : same sine X 9 + plus (Hi X depths) * den9 ≤ other sine X 9 + minus (Hi X depths) * den9 + 32 * den9
+  high-near = let t = low-truth depths (omega arith) in omega (arith, mul-le-mul-right den9 narrow)
 
 -- ---- of one M and one A
+
+-- S_9 lies below S_10: an upper end's inequality holds with it too
+pub with-S9 : (o : Orbit) (X w : ℕ) → AboveBy w o X → OverBy w o X
+with-S9 o X w h =
+    let k = drop-last sine sine-divides X 9 (o .a) (one * X) (one * o .m + w * o .a) (omega arith) in omega arith
 
 module _ (o : Orbit) (X : ℕ) (within : X ≤ T-units) where
   -- R19: of a lower end, at any depth
@@ -71,8 +74,11 @@ module _ (o : Orbit) (X : ℕ) (within : X ≤ T-units) where
       (refuse (one * X) (one * o .m) (o .a) 32 den9 (other sine X 9) (same sine X 9) (plus (Lo X depths)) (minus (Lo X depths))
       (den-pos sine sine-divides 9) (low-near X within) s)
 
-  pub above-spare : AboveBy 32 o X → T (aboveAt o X (Hi X depths))
-  above-spare s =
+  pub over-spare : OverBy 32 o X → T (aboveAt o X (Hi X depths))
+  over-spare s =
       above-test o X (Hi X depths) .1
-      (refuse (one * o .m) (one * X) (o .a) 32 den10 (other sine X 10) (same sine X 10) (minus (Hi X depths)) (plus (Hi X depths))
-      (den-pos sine sine-divides 10) (high-near X within) s)
+      (refuse (one * o .m) (one * X) (o .a) 32 den9 (same sine X 9) (other sine X 9) (minus (Hi X depths)) (plus (Hi X depths))
+      (den-pos sine sine-divides 9) (let h = high-near X within in omega arith) s)
+
+  pub above-spare : AboveBy 32 o X → T (aboveAt o X (Hi X depths))
+  above-spare s = over-spare (with-S9 o X 32 s)

@@ -25,6 +25,10 @@ BelowBy w o X = Spares w (one * X) (one * o .m) (o .a) den9 (other sine X 9) (sa
 abbrev pub AboveBy : ℕ → Orbit → ℕ → Type 0
 AboveBy w o X = Spares w (one * o .m) (one * X) (o .a) den10 (other sine X 10) (same sine X 10)
 
+-- an upper end's with S_9, which S_10 is not below
+abbrev pub OverBy : ℕ → Orbit → ℕ → Type 0
+OverBy w o X = Spares w (one * o .m) (one * X) (o .a) den9 (same sine X 9) (other sine X 9)
+
 module _ (o : Orbit) (X : ℕ) where
   pub below-test : (b : ℤ) → T (belowAt o X b) ↔ Accepts (one * X) (one * o .m) (o .a) (plus b) (minus b)
   unfolding belowAt

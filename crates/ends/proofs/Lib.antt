@@ -5,6 +5,7 @@ pub mod Exact
 pub mod Fractions
 pub mod Mirror
 pub mod Apart
+pub mod Steep
 pub mod Known
 pub mod Answered
 pub mod Least

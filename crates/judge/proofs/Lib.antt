@@ -1,4 +1,5 @@
 pub mod Kept
+pub mod Figures
 pub mod Settles
 pub mod Answered
 pub mod SettleAnswers
