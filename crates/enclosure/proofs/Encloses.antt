@@ -1,6 +1,6 @@
 -- What the entry's answer says: its code, and with code 0 that both ends are accepted, one unit further in neither is, and a
 -- is not above b. Acceptance is not one unbroken run of X, and nothing here needs it. Assumes nothing.
-use mathlib.Core.Path.{_≡_, refl, sym, subst}
+use mathlib.Core.Path.{_≡_, refl, sym, ap, subst}
 use mathlib.Core.Bool.{Bool, true, false, not}
 use mathlib.Core.Logic.{⊎-elim}
 use mathlib.Core.List.{[], _∷_}
@@ -10,9 +10,10 @@ use native.Mathlib.Nat.{lt-of-not-le}
 use borrow.Author.Tests.{le-ltb}
 use lib.Dec.{T, T-not, lit≤, lit<}
 use lib.IntN.{ℤ, pos, negsuc, natAbs}
+use Rattle.whole.proofs.Bools.{passes}
 use Rattle.grid.specs.Grid.{H-units, T-units, depths}
-use Rattle.grid.specs.Codes.{checked, bad-m, limit-check, a-check, depth-check}
-use Rattle.grid.proofs.FirstCode.{split, only-last}
+use Rattle.grid.specs.Codes.{Passed, checked, bad-m, limit-check, a-check, depth-check}
+use Rattle.grid.proofs.FirstCode.{split, only-last, join}
 use Rattle.grid.proofs.Refuses.{Makes, makes}
 use Rattle.orbit.specs.Cell.{gridCell, CellIn}
 use Rattle.orbit.specs.Given.{Given, grid, mirroredOf, cellOf, problemChecks, problemAt, ProblemIn}
@@ -62,6 +63,14 @@ never-six g d h six =
     only-last 6 (problemChecks g d) (T-check (cellOf g) d) tt (enclosures g d .demand .coded 6 (λ e. omega arith) .0 six) in
     let i = problem-in g d p .cell .mean in
     T-not (upperEnd (cellOf g) d T-units) (subst T (sym q) tt) (T-upper (cellOf g) d (omega arith) h)
+
+-- R28: so depth 5 encloses every problem
+pub always : (g : Given) → Passed (problemChecks g depths) → enclosureRule g depths .code ≡ 0
+always g p =
+    let i = problem-in g depths p .cell .mean in
+    let t = T-upper (cellOf g) depths (omega arith) (omega arith) in
+    enclosures g depths .demand .passed .1
+    (join (problemChecks g depths) (T-check (cellOf g) depths ∷ []) p (sym (ap not (passes (upperEnd (cellOf g) depths T-units) t)), tt))
 
 -- ---- R29
 

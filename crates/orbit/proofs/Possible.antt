@@ -30,7 +30,7 @@ pub pos-le : {a b : ℕ} → a ≤ b → pos a ≤ℤ pos b
 pos-le {a} {b} h = le-parts (is-pos a) (is-pos b) .1 (omega arith)
 
 -- a double and its mirror have one size
-same-size : (t : Bool) (x : Float) → (product (mirrorDouble t x) ≡ product x) × (den (mirrorDouble t x) ≡ den x)
+pub same-size : (t : Bool) (x : Float) → (product (mirrorDouble t x) ≡ product x) × (den (mirrorDouble t x) ≡ den x)
 unfolding neg
 same-size false x = (refl, refl)
 same-size true nan = (refl, refl)
@@ -61,30 +61,25 @@ own-possible (doubles m e) =
 
 -- ---- the doubles' values
 
--- the fraction of M is what the double is, with its sign
-mean-value : (m : Float) → offRange H-units (mirrorDouble (belowZero m) m) ≡ false → InUnits m (mirror (belowZero m) (pos (product m))) (den m)
-unfolding offRange belowZero neg
-mean-value nan h = absurd (true≢false h)
-mean-value (inf true) h = absurd (true≢false h)
-mean-value (inf false) h = absurd (true≢false h)
-mean-value (fin false m e) h =
+-- of a double in range, or on the mirror of one whose negative is, the fraction is what it is, with its sign
+pub signed-value : (limit : ℕ) (mirrored : Bool) (x : Float) → offRange limit (mirrorDouble mirrored x) ≡ false
+    → InUnits x (mirror mirrored (pos (product x))) (den x)
+unfolding offRange neg
+signed-value limit false nan h = absurd (true≢false h)
+signed-value limit false (inf s) h = absurd (true≢false h)
+signed-value limit false (fin false m e) h =
     one-number (is-mul (down e) (is-pos (product (fin false m e)))) (shift (is-mul (one * down e) (is-pos (m * up e))) (omega arith))
-mean-value (fin true zero e) h =
+signed-value limit false (fin true zero e) h =
     one-number (is-mul (down e) (is-pos (one * (0 * up e)))) (shift (is-mul (one * down e) (is-neg (is-pos (0 * up e)))) (omega arith))
-mean-value (fin true (suc m) e) h =
-    rw (lt-ltb 0 (suc m) (zero-lt-suc m))
-    (one-number (is-mul (down e) (is-neg (is-pos (one * (suc m * up e))))) (shift (is-mul (one * down e) (is-neg (is-pos (suc m * up e)))) (omega arith)))
-
-shape-value : (e : Float) → offRange one e ≡ false → InUnits e (pos (product e)) (den e)
-unfolding offRange
-shape-value nan h = absurd (true≢false h)
-shape-value (inf s) h = absurd (true≢false h)
-shape-value (fin false m e) h =
-    one-number (is-mul (down e) (is-pos (product (fin false m e)))) (shift (is-mul (one * down e) (is-pos (m * up e))) (omega arith))
-shape-value (fin true zero e) h =
-    one-number (is-mul (down e) (is-pos (one * (0 * up e)))) (shift (is-mul (one * down e) (is-neg (is-pos (0 * up e)))) (omega arith))
-shape-value (fin true (suc m) e) h = absurd (true≢false (simp (lt-ltb 0 (suc m) (zero-lt-suc m)) at h))
+signed-value limit false (fin true (suc m) e) h = absurd (true≢false (simp (lt-ltb 0 (suc m) (zero-lt-suc m)) at h))
+signed-value limit true nan h = absurd (true≢false h)
+signed-value limit true (inf s) h = absurd (true≢false h)
+signed-value limit true (fin true m e) h =
+    one-number (is-mul (down e) (is-neg (is-pos (product (fin true m e))))) (shift (is-mul (one * down e) (is-neg (is-pos (m * up e)))) (omega arith))
+signed-value limit true (fin false zero e) h =
+    one-number (is-mul (down e) (is-neg (is-pos (one * (0 * up e))))) (shift (is-mul (one * down e) (is-pos (0 * up e))) (omega arith))
+signed-value limit true (fin false (suc m) e) h = absurd (true≢false (simp (lt-ltb 0 (suc m) (zero-lt-suc m)) at h))
 
 pub own-value : (m e : Float) → Passed (checksOf (doubles m e))
     → let o = exactOf (doubles m e) in InUnits m (o .p) (o .q) × InUnits e (pos (o .r)) (o .s)
-own-value m e p = (mean-value m (p .0), shape-value e (p .1 .0))
+own-value m e p = (signed-value H-units (belowZero m) m (p .0), signed-value one false e (p .1 .0))

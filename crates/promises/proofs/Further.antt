@@ -35,6 +35,7 @@ use Rattle.units.proofs.Rounding.{made-exact, made-rounded}
 use Rattle.claim_file.proofs.Output as program
 use Rattle.judge.proofs.SettleAnswers as settle
 use Rattle.promises.specs.Further.{Sums, Ends, Searches, Proposals, Estimates, Further}
+use Rattle.promises.proofs.Figures.{figures}
 use Rattle.promises.proofs.Alike.{mirrored, doubles-met}
 use Rattle.promises.proofs.Mirror.{at-0}
 use Rattle.promises.proofs.Ends.{accepted-says, accepts, accepts-at, declines-at}
@@ -158,6 +159,7 @@ further =
             from = λ g x n z d h k. settle.from-there g x n z d h k ∙ rw z refl;
             undecided = settle.none-decides;
           };
+      figures = figures;
       mirrored = mirrored;
       doubles = doubles-met;
       program = record { complete = program.complete; longer = program.longer; cut = program.cut };

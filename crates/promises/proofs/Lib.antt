@@ -7,6 +7,8 @@ pub mod Bytes
 pub mod Demand2
 pub mod Demand3
 pub mod Alike
+pub mod FarAndNear
+pub mod Figures
 pub mod Further
 pub mod Starred
 pub mod Unique

@@ -4,6 +4,7 @@ pub mod Rules
 pub mod Demand2
 pub mod Demand3
 pub mod Alike
+pub mod Figures
 pub mod Further
 pub mod Starred
 pub mod Unique

@@ -1,6 +1,6 @@
 -- Tests as facts: when two tests are one, when a comparison is a test, and branches as a conjunction. Assumes nothing.
 use mathlib.Core.Path.{_≡_, refl, sym, ap, subst, _∙_}
-use mathlib.Core.Bool.{Bool, true, false, _&&_, _||_}
+use mathlib.Core.Bool.{Bool, true, false, not, _&&_, _||_}
 use mathlib.Core.Logic.{_⊎_, inl, inr, _↔_}
 use Prim.Native.Nat.{ℕ, _≤_}
 use lib.Dec.{T, leb, leb→le, le→leb}
@@ -26,6 +26,11 @@ passes false s = absurd s
 pub fails : (t : Bool) → (T t → ⊥) → false ≡ t
 fails true f = absurd (f tt)
 fails false f = refl
+
+-- a test that does not fail passes
+pub not-failed : (t : Bool) → (T (not t) → ⊥) → T t
+not-failed true f = tt
+not-failed false f = f tt
 
 -- the first test passed, and the second is the answer
 pub then-and : (a b : Bool) {r : Bool} → a ≡ true → r ≡ b → r ≡ (a && b)

@@ -2,12 +2,14 @@
 use mathlib.Core.Path.{_≡_, ap}
 use mathlib.Core.Bool.{not}
 use mathlib.Core.Logic.{_↔_}
-use Prim.Native.Nat.{ℕ, _+_, _≤_}
+use Prim.Native.Nat.{ℕ, _+_, _≤_, _<_}
 use native.Mathlib.Omega.{arith}
+use native.Mathlib.Nat.{lt-of-not-le}
 use lib.Dec.{T, leb→le, le→leb, nleb→lt}
 use lib.IntN.{ℤ, pos, negsuc}
-use lib.Signed.{leZ, _≤ℤ_, leZ-yes}
+use lib.Signed.{ltZ, leZ, _≤ℤ_, _<ℤ_, leZ-yes, ltZ-yes, ltZ-no, clashℤ}
 use Rattle.whole.specs.Choose.{greater, lesser}
+use Rattle.whole.proofs.Bools.{not-failed}
 use Rattle.whole.proofs.Parts.{plus, minus, Is, own, shift, by-test}
 
 own-le : (y z : ℤ) → T (leZ y z) → plus y + minus z ≤ plus z + minus y
@@ -30,6 +32,13 @@ le-parts {y} {z} i j =
     (λ h. let k = own-le y z (h .le) in omega arith, λ k. record { le = le-own y z (omega arith) })
 
 -- the same of the test
+-- and y < z, which is that not z ≤ y, says a + d < c + b
+pub lt-parts : {y z : ℤ} {a b c d : ℕ} → Is y a b → Is z c d → y <ℤ z ↔ a + d < c + b
+lt-parts {y} {z} i j = (
+  λ h. lt-of-not-le (λ k. clashℤ h (le-parts j i .1 k)),
+  λ k. ltZ-yes (not-failed (ltZ y z) (λ n. let h = le-parts j i .0 (ltZ-no n) in omega arith)),
+)
+
 pub test-parts : {y z : ℤ} {a b c d : ℕ} → Is y a b → Is z c d → T (leZ y z) ↔ a + d ≤ c + b
 test-parts i j = (λ t. le-parts i j .0 (leZ-yes t), λ h. le-parts i j .1 h .le)
 

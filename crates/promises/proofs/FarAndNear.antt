@@ -1,0 +1,194 @@
+-- R64 and R65 for either sign of M: an estimate inside the enclosure is confirmed, one far outside of it refuted. Assumes nothing.
+use mathlib.Core.Path.{_≡_, sym, ap, subst, _∙_}
+use mathlib.Core.Bool.{Bool, true, false}
+use mathlib.Core.List.{[], _∷_}
+use Prim.Native.Nat.{ℕ, _+_, _-_, _*_, _≤_, _<_}
+use native.Mathlib.Omega.{arith}
+use native.Mathlib.Nat.{le-of-mul-le-mul-right}
+use lib.Dec.{T}
+use lib.IntN.{ℤ, pos, natAbs, _+ℤ_, _-ℤ_, _*ℤ_}
+use lib.Signed.{_≤ℤ_, _<ℤ_}
+use lib.Ieee.{Float}
+use lib.Ieee.Positive.{den, den-pos}
+use Rattle.whole.specs.Sign.{negative}
+use Rattle.whole.proofs.Parts.{Is, shift, is-pos, is-neg, is-add, is-minus, is-mul-right}
+use Rattle.whole.proofs.Order.{le-parts, lt-parts}
+use Rattle.grid.specs.Grid.{one, depths, T-units}
+use Rattle.grid.specs.Codes.{Passed, n-check}
+use Rattle.grid.proofs.FirstCode.{split}
+use Rattle.orbit.specs.Cell.{gridCell, CellIn}
+use Rattle.orbit.specs.Mirror.{mirror}
+use Rattle.orbit.specs.Given.{grid, problemChecks}
+use Rattle.orbit.specs.declared.Cell.{Cell}
+use Rattle.orbit.proofs.Possible.{same-size, signed-value}
+use Rattle.enclosure.specs.Enclosure.{foundLower, foundUpper, mirrorEnds}
+use Rattle.enclosure.specs.declared.Enclosure.{Enclosure}
+use Rattle.enclosure.proofs.Encloses.{Encloses, code-zero, encloses, always}
+use Rattle.units.specs.Units.{mirrorDouble, product, floorAndCeiling, estimate-check}
+use Rattle.units.specs.Exact.{Rounded}
+use Rattle.units.specs.declared.Units.{Units}
+use Rattle.units.proofs.Rounding.{passed-rounded}
+use Rattle.judge.specs.Verdict.{refuted}
+use Rattle.judge.specs.Judge.{estimateOf, claimChecks, caseAt, verdict, judgeRule}
+use Rattle.judge.specs.Limits.{CaseIn}
+use Rattle.judge.specs.declared.Verdict.the-variants.{Confirmed, Refuted}
+use Rattle.judge.proofs.Kept.{never-both, verdict-confirmed, verdict-refuted}
+use Rattle.judge.proofs.Answered.{claims, case-in, answered}
+use Rattle.judge.proofs.Figures.{inside-confirmed, far-below, far-above}
+use Rattle.promises.specs.Figures.{enclosureOf, claimFor, signedFloor, signedCeiling, floorOf, ceilingOf, SignedRounded}
+
+-- ---- the signed numbers, by those of the problem that was posed
+
+module _ (A B : ℕ) (u : Units) where
+  inside-parts : (mirrored : Bool) → mirrorEnds mirrored A B .lower ≤ℤ signedFloor mirrored u
+      → signedCeiling mirrored u ≤ℤ mirrorEnds mirrored A B .upper → (A ≤ u .floor) × (u .ceiling ≤ B)
+  inside-parts false h k =
+      let f = le-parts (is-pos A) (is-pos (u .floor)) .0 h in
+      let c = le-parts (is-pos (u .ceiling)) (is-pos B) .0 k in
+      (omega arith, omega arith)
+  inside-parts true h k =
+      let c = le-parts (is-neg (is-pos B)) (is-neg (is-pos (u .ceiling))) .0 h in
+      let f = le-parts (is-neg (is-pos (u .floor))) (is-neg (is-pos A)) .0 k in
+      (omega arith, omega arith)
+
+-- z is P - Q, and 32 e / (1 - e) or more
+distance : (a P Q : ℕ) {z : ℤ} → a < one → Is z P Q → pos (32 * a) ≤ℤ (z *ℤ pos (one - a))
+    → (P ≡ Q + (P - Q)) × (32 * a ≤ (P - Q) * (one - a))
+distance a P Q under i far =
+    let h = le-parts (is-pos (32 * a)) (is-mul-right (one - a) i) .0 far in
+    let k : Q ≤ P = le-of-mul-le-mul-right {k = one - a} (omega arith) (omega arith) in
+    let e : P ≡ Q + (P - Q) = omega arith in
+    let p : (one - a) * P ≡ (one - a) * (Q + (P - Q)) = ap (λ (n : ℕ). (one - a) * n) e in
+    (e, omega arith)
+
+-- f and c are the floor and the ceiling of p / q, with the sign
+module _ (p q : ℕ) (u : Units) (r : Rounded p q (u .floor) (u .ceiling)) where
+  floor-below : (mirrored : Bool) → (signedFloor mirrored u *ℤ pos q) ≤ℤ mirror mirrored (pos p)
+  floor-below false = le-parts (is-mul-right q (is-pos (u .floor))) (is-pos p) .1 (let h = r .floor-least in omega arith)
+  floor-below true = le-parts (is-mul-right q (is-neg (is-pos (u .ceiling)))) (is-neg (is-pos p)) .1 (let h = r .ceiling-least in omega arith)
+
+  floor-next : (mirrored : Bool) → mirror mirrored (pos p) <ℤ ((signedFloor mirrored u +ℤ pos 1) *ℤ pos q)
+  floor-next false = lt-parts (is-pos p) (is-mul-right q (is-add (is-pos (u .floor)) (is-pos 1))) .1 (let h = r .floor-most in omega arith)
+  floor-next true =
+      lt-parts (is-neg (is-pos p)) (is-mul-right q (is-add (is-neg (is-pos (u .ceiling))) (is-pos 1))) .1 (let h = r .ceiling-most in omega arith)
+
+  ceiling-above : (mirrored : Bool) → mirror mirrored (pos p) ≤ℤ (signedCeiling mirrored u *ℤ pos q)
+  ceiling-above false = le-parts (is-pos p) (is-mul-right q (is-pos (u .ceiling))) .1 (let h = r .ceiling-least in omega arith)
+  ceiling-above true = le-parts (is-neg (is-pos p)) (is-mul-right q (is-neg (is-pos (u .floor)))) .1 (let h = r .floor-least in omega arith)
+
+  ceiling-before : (mirrored : Bool) → ((signedCeiling mirrored u -ℤ pos 1) *ℤ pos q) <ℤ mirror mirrored (pos p)
+  ceiling-before false =
+      lt-parts (is-mul-right q (is-minus (is-pos (u .ceiling)) (is-pos 1))) (is-pos p) .1 (let h = r .ceiling-most in omega arith)
+  ceiling-before true =
+      lt-parts (is-mul-right q (is-minus (is-neg (is-pos (u .floor))) (is-pos 1))) (is-neg (is-pos p)) .1 (let h = r .floor-most in omega arith)
+
+-- ---- a claim of code 0
+
+module _ (m : ℤ) (a : ℕ) (x : Float) (n : ℕ) (z : judgeRule (claimFor m a x n) .code ≡ 0) where
+  abbrev cell : Cell
+  cell = gridCell (natAbs m) a
+
+  abbrev units : Units
+  units = floorAndCeiling (mirrorDouble (negative m) x)
+
+  checks : Passed (claimChecks (claimFor m a x n))
+  unfolding judgeRule
+  checks = claims (claimFor m a x n) .demand .passed .0 z
+
+  pub limits : CaseIn (caseAt (claimFor m a x n))
+  limits = case-in (claimFor m a x n) checks
+
+  pub enclosed : enclosureOf m a .code ≡ 0
+  enclosed = always (grid m a) (split (problemChecks (grid m a) depths) (estimate-check (estimateOf (claimFor m a x n)) ∷ n-check n ∷ []) checks .0)
+
+  found : Encloses cell depths
+  found = encloses (grid m a) depths enclosed
+
+  ends : enclosureOf m a ≡ mirrorEnds (negative m) (foundLower cell depths) (foundUpper cell depths)
+  ends = code-zero (grid m a) depths enclosed .ends
+
+  pub confirmed : a < one → enclosureOf m a .lower ≤ℤ floorOf m x → ceilingOf m x ≤ℤ enclosureOf m a .upper
+      → 1 ≤ n → 64 * a ≤ (n - 1) * (one - a) → judgeRule (claimFor m a x n) ≡ verdict Confirmed
+  confirmed under low high some far =
+      let (f, c) =
+      inside-parts (foundLower cell depths) (foundUpper cell depths) units (negative m)
+      (subst (λ (r : Enclosure). r .lower ≤ℤ floorOf m x) ends low) (subst (λ (r : Enclosure). ceilingOf m x ≤ℤ r .upper) ends high) in
+      answered (claimFor m a x n) checks
+      ∙ ap verdict
+      (verdict-confirmed cell units n depths
+      (inside-confirmed (natAbs m) a units n (limits .problem .cell .mean) (omega arith) (foundLower cell depths) (foundUpper cell depths)
+      (found .upper .within) some far f c (found .lower .next) (found .upper .next)))
+
+  refutes : T (refuted cell depths units n) → judgeRule (claimFor m a x n) ≡ verdict Refuted
+  refutes t =
+      answered (claimFor m a x n) checks
+      ∙ ap verdict
+      (verdict-refuted cell units n depths
+      (λ s. never-both cell units n (limits .problem .cell) (limits .units .ceiling) depths depths (omega arith) (omega arith) s t) t)
+
+  -- the distance from f + N + 1 up to the lower end of the problem that was posed, and from its upper end up to c - N - 1
+  module _ (under : a < one) {y : ℤ} (far : pos (32 * a) ≤ℤ (y *ℤ pos (one - a))) where
+    low-far : Is y (foundLower cell depths) (units .floor + (n + 1)) → judgeRule (claimFor m a x n) ≡ verdict Refuted
+    low-far i =
+        let (e, k) = distance a (foundLower cell depths) (units .floor + (n + 1)) under i far in
+        let w = found .lower .within in
+        refutes
+        (far-below (natAbs m) a units n (limits .problem .cell .mean) (omega arith) (foundLower cell depths)
+        (foundLower cell depths - (units .floor + (n + 1))) (omega arith) (found .lower .accepted) (omega arith) k)
+
+    high-far : Is y (units .ceiling) (foundUpper cell depths + (n + 1)) → judgeRule (claimFor m a x n) ≡ verdict Refuted
+    high-far i =
+        let (e, k) = distance a (units .ceiling) (foundUpper cell depths + (n + 1)) under i far in
+        refutes
+        (far-above (natAbs m) a units n (limits .problem .cell .mean) (omega arith) (foundUpper cell depths)
+        (units .ceiling - (foundUpper cell depths + (n + 1))) (limits .units .ceiling) (found .upper .accepted) (omega arith) k)
+
+  below-parts : (mirrored : Bool) → a < one
+      → pos (32 * a)
+      ≤ℤ ((mirrorEnds mirrored (foundLower cell depths) (foundUpper cell depths) .lower -ℤ (signedFloor mirrored units +ℤ pos (n + 1))) *ℤ pos (one - a))
+      → judgeRule (claimFor m a x n) ≡ verdict Refuted
+  below-parts false under far =
+      low-far under far (shift (is-minus (is-pos (foundLower cell depths)) (is-add (is-pos (units .floor)) (is-pos (n + 1)))) (omega arith))
+  below-parts true under far =
+      high-far under far
+      (shift (is-minus (is-neg (is-pos (foundUpper cell depths))) (is-add (is-neg (is-pos (units .ceiling))) (is-pos (n + 1)))) (omega arith))
+
+  above-parts : (mirrored : Bool) → a < one
+      → pos (32 * a)
+      ≤ℤ (((signedCeiling mirrored units -ℤ pos (n + 1)) -ℤ mirrorEnds mirrored (foundLower cell depths) (foundUpper cell depths) .upper) *ℤ pos (one - a))
+      → judgeRule (claimFor m a x n) ≡ verdict Refuted
+  above-parts false under far =
+      high-far under far
+      (shift (is-minus (is-minus (is-pos (units .ceiling)) (is-pos (n + 1))) (is-pos (foundUpper cell depths))) (omega arith))
+  above-parts true under far =
+      low-far under far
+      (shift (is-minus (is-minus (is-neg (is-pos (units .floor))) (is-pos (n + 1))) (is-neg (is-pos (foundLower cell depths)))) (omega arith))
+
+  pub refuted-below : a < one → pos (32 * a) ≤ℤ ((enclosureOf m a .lower -ℤ (floorOf m x +ℤ pos (n + 1))) *ℤ pos (one - a))
+      → judgeRule (claimFor m a x n) ≡ verdict Refuted
+  refuted-below under far =
+      below-parts (negative m) under
+      (subst (λ (r : Enclosure). pos (32 * a) ≤ℤ ((r .lower -ℤ (floorOf m x +ℤ pos (n + 1))) *ℤ pos (one - a))) ends far)
+
+  pub refuted-above : a < one → pos (32 * a) ≤ℤ (((ceilingOf m x -ℤ pos (n + 1)) -ℤ enclosureOf m a .upper) *ℤ pos (one - a))
+      → judgeRule (claimFor m a x n) ≡ verdict Refuted
+  refuted-above under far =
+      above-parts (negative m) under
+      (subst (λ (r : Enclosure). pos (32 * a) ≤ℤ (((ceilingOf m x -ℤ pos (n + 1)) -ℤ r .upper) *ℤ pos (one - a))) ends far)
+
+  pub rounded : SignedRounded x (mirror (negative m) (pos (product x))) (den x) (floorOf m x) (ceilingOf m x)
+  rounded =
+      let t = negative m in
+      let passed = checks .1 .1 .1 .0 in
+      let (products, dens) = same-size t x in
+      let r : Rounded (product x) (den x) (units .floor) (units .ceiling) =
+      subst (λ (p : ℕ). Rounded p (den x) (units .floor) (units .ceiling)) products
+      (subst (λ (q : ℕ). Rounded (product (mirrorDouble t x)) q (units .floor) (units .ceiling)) dens (passed-rounded (mirrorDouble t x) passed)) in
+      record {
+        over-0 = den-pos x;
+        value = signed-value T-units t x passed;
+        floor-least = floor-below (product x) (den x) units r t;
+        floor-most = floor-next (product x) (den x) units r t;
+        ceiling-least = ceiling-above (product x) (den x) units r t;
+        ceiling-most = ceiling-before (product x) (den x) units r t;
+      }
