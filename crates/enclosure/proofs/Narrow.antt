@@ -7,7 +7,7 @@ use Prim.Native.Nat.{ℕ, suc, _+_, _-_, _*_, _≤_, _<_}
 use native.Mathlib.Omega.{arith}
 use native.Mathlib.Nat.{lt-of-not-le}
 use lib.Dec.{T-not}
-use Rattle.grid.specs.Grid.{one, T-units, depths}
+use Rattle.grid.specs.Grid.{one, depths}
 use Rattle.orbit.specs.Cell.{gridCell}
 use Rattle.ends.specs.Ends.{upperEnd}
 use Rattle.ends.proofs.Steep.{past-refused}

@@ -1,11 +1,10 @@
 -- R63 to R65, on the grid: F(x) = x - M - e S_9(x) rises by at least 1 - e for each unit. So an end that lies farther out than an
 -- accepted one, or than one that was refused to the other side, has 32 e units to spare, and depth 5 accepts it. Assumes nothing.
-use mathlib.Core.Path.{_≡_, refl, sym, ap, subst}
+use mathlib.Core.Path.{_≡_, sym, subst}
 use mathlib.Core.Bool.{Bool, true, false, not}
-use Prim.Native.Nat.{ℕ, zero, suc, _+_, _-_, _*_, _≤_, _<_}
+use Prim.Native.Nat.{ℕ, zero, suc, _+_, _-_, _*_, _≤_}
 use native.Mathlib.Omega.{arith}
 use native.Mathlib.Nat.{mul-le-mul-left, mul-le-mul-right, lt-of-not-le}
-use native.Mathlib.Decide.{decLe}
 use lib.Dec.{T, T-not}
 use Rattle.grid.specs.Grid.{one, T-units, depths}
 use Rattle.series.specs.Sine.{sine, Lo, Hi, den9}

@@ -3,7 +3,7 @@
 use mathlib.Core.Path.{_≡_, subst}
 use mathlib.Core.Bool.{true, false, not}
 use mathlib.Core.Logic.{_⊎_, inl, inr, ⊎-elim}
-use Prim.Native.Nat.{ℕ, suc, _+_, _-_, _*_, _≤_, _<_, min}
+use Prim.Native.Nat.{ℕ, suc, _+_, _-_, _*_, _≤_}
 use native.Mathlib.Omega.{arith}
 use native.Mathlib.Nat.{mul-le-mul-right, lt-of-not-le}
 use native.Mathlib.Decide.{decLe}
@@ -16,7 +16,7 @@ use Rattle.ends.proofs.Known.{zero-lower, T-upper}
 use Rattle.ends.proofs.Steep.{past-accepted, past-refused}
 use Rattle.units.specs.declared.Units.{Units}
 use Rattle.judge.specs.Verdict.{lowEnd, highEnd, confirmed, refuted}
-use Rattle.judge.proofs.Kept.{RefutedAbove, RefutedBelow, confirmed-by, refuted-by}
+use Rattle.judge.proofs.Kept.{confirmed-by, refuted-by}
 
 module _ (m a : ℕ) (u : Units) (n : ℕ) (mean : m ≤ H-units) (small : a ≤ one) where
   abbrev cell : Cell

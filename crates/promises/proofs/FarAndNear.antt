@@ -1,5 +1,5 @@
 -- R64 and R65 for either sign of M: an estimate inside the enclosure is confirmed, one far outside of it refuted. Assumes nothing.
-use mathlib.Core.Path.{_≡_, sym, ap, subst, _∙_}
+use mathlib.Core.Path.{_≡_, ap, subst, _∙_}
 use mathlib.Core.Bool.{Bool, true, false}
 use mathlib.Core.List.{[], _∷_}
 use Prim.Native.Nat.{ℕ, _+_, _-_, _*_, _≤_, _<_}
@@ -16,7 +16,7 @@ use Rattle.whole.proofs.Order.{le-parts, lt-parts}
 use Rattle.grid.specs.Grid.{one, depths, T-units}
 use Rattle.grid.specs.Codes.{Passed, n-check}
 use Rattle.grid.proofs.FirstCode.{split}
-use Rattle.orbit.specs.Cell.{gridCell, CellIn}
+use Rattle.orbit.specs.Cell.{gridCell}
 use Rattle.orbit.specs.Mirror.{mirror}
 use Rattle.orbit.specs.Given.{grid, problemChecks}
 use Rattle.orbit.specs.declared.Cell.{Cell}

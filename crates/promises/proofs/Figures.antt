@@ -1,27 +1,22 @@
 -- How narrow an enclosure is, and what it takes to be confirmed or refuted, for either sign of M. Assumes nothing.
-use mathlib.Core.Path.{_≡_, refl, sym, ap, subst, _∙_}
+use mathlib.Core.Path.{_≡_, sym, ap, subst}
 use mathlib.Core.Bool.{Bool, true, false, cond}
-use mathlib.Core.List.{[], _∷_}
 use mathlib.Core.Logic.{_↔_}
-use Prim.Native.Nat.{ℕ, suc, _+_, _-_, _*_, _≤_, _<_}
+use Prim.Native.Nat.{ℕ, _+_, _-_, _*_, _≤_, _<_}
 use native.Mathlib.Omega.{arith}
-use native.Mathlib.Nat.{mul-le-mul-right, le-of-mul-le-mul-right, lt-of-not-le}
+use native.Mathlib.Nat.{mul-le-mul-right, lt-of-not-le}
 use native.Mathlib.Decide.{decLe}
 use borrow.Author.Tests.{lt-ltb, le-ltb}
-use lib.Dec.{T, leb, ltb, leb→le, nleb→lt}
-use lib.IntN.{ℤ, pos, natAbs, _+ℤ_, _-ℤ_, _*ℤ_}
+use lib.Dec.{leb, nleb→lt}
+use lib.IntN.{ℤ, pos, natAbs, _-ℤ_, _*ℤ_}
 use lib.Signed.{_≤ℤ_, _<ℤ_}
-use lib.Ieee.{Float}
-use lib.Ieee.Positive.{den, den-pos}
 use Rattle.whole.specs.Round.{down, up}
 use Rattle.whole.specs.Sign.{negative}
 use Rattle.whole.proofs.Round.{down-le, le-down, le-up, up-le}
-use Rattle.whole.proofs.Parts.{Is, shift, by-test, is-pos, is-neg, is-add, is-minus, is-mul-right}
+use Rattle.whole.proofs.Parts.{Is, shift, by-test, is-pos, is-neg, is-minus, is-mul-right}
 use Rattle.whole.proofs.Order.{le-parts, lt-parts}
-use Rattle.grid.specs.Grid.{one, depths, T-units, N-units}
-use Rattle.grid.specs.Codes.{Passed}
+use Rattle.grid.specs.Grid.{one, depths, N-units}
 use Rattle.orbit.specs.Cell.{gridCell}
-use Rattle.orbit.specs.Mirror.{mirror}
 use Rattle.orbit.specs.Given.{grid}
 use Rattle.orbit.specs.declared.Cell.{Cell}
 use Rattle.enclosure.specs.Enclosure.{foundLower, foundUpper, mirrorEnds}
@@ -39,13 +34,14 @@ module _ (a : ℕ) (under : a < one) where
 
   greatest : (w : ℕ) → 2 < w → (w - 2) * (one - a) < 64 * a ↔ w ≤ greatestWidth a
   greatest w some =
-      let e = width-is in
-      (λ h. let k = le-down (w - 2) (64 * a - 1) (one - a) (omega arith) (omega arith) in omega arith,
-       λ h.
-           let k = down-le (64 * a - 1) (one - a) in
-           let j : w - 2 ≤ down (64 * a - 1) (one - a) = omega arith in
-           let i : 1 ≤ w - 2 = omega arith in
-           omega (arith, mul-le-mul-right (one - a) j, mul-le-mul-right (one - a) i))
+      let e = width-is in (
+        λ h. let k = le-down (w - 2) (64 * a - 1) (one - a) (omega arith) (omega arith) in omega arith,
+        λ h.
+            let k = down-le (64 * a - 1) (one - a) in
+            let j : w - 2 ≤ down (64 * a - 1) (one - a) = omega arith in
+            let i : 1 ≤ w - 2 = omega arith in
+            omega (arith, mul-le-mul-right (one - a) j, mul-le-mul-right (one - a) i),
+      )
 
   -- whatever is 0 for a figure beyond the limit
   least-by : (n : ℕ) → 1 ≤ n → n ≤ N-units
@@ -56,9 +52,9 @@ module _ (a : ℕ) (under : a < one) where
       λ h. let k = up-le (n - 1) (64 * a) (one - a) (omega arith) h in omega arith in
       let left : first ≤ n → 64 * a ≤ (n - 1) * (one - a) =
       λ h.
-          let k = le-up (64 * a) (one - a) (omega arith) in
-          let j : up (64 * a) (one - a) ≤ n - 1 = omega arith in
-          omega (arith, mul-le-mul-right (one - a) j) in
+      let k = le-up (64 * a) (one - a) (omega arith) in
+      let j : up (64 * a) (one - a) ≤ n - 1 = omega arith in
+      omega (arith, mul-le-mul-right (one - a) j) in
       by-test (λ (z : ℕ). 64 * a ≤ (n - 1) * (one - a) ↔ (0 < z) × (z ≤ n)) (leb first N-units) first 0
       (λ t. (λ h. (omega arith, right h), λ p. left (p .1)))
       (λ t.

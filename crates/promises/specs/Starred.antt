@@ -22,6 +22,7 @@ use Rattle.judge.specs.declared.Verdict.{Verdict}
 use Rattle.judge.specs.declared.Verdict.the-variants.{Confirmed, Refuted, Undecided}
 use Rattle.claims.specs.Form.{twenty}
 use Rattle.claims.specs.Batch.{batchRule, answersAfter}
+use Rattle.promises.specs.Figures.{greatestWidth, leastN}
 
 -- a line: an entry's numbers, and what it answers to them
 pub data Row : Type 0 where
@@ -43,6 +44,8 @@ pub data Row : Type 0 where
   judged : Given → ℕ → ℕ → ℕ → Verdict → Row
   -- what is given, the estimate's bits, N: the verdict and the least depth that gives it
   settled : Given → ℕ → ℕ → Verdict → ℕ → Row
+  -- A: the greatest width and the least N
+  figures : ℕ → ℕ → ℕ → Row
   -- what is given, the estimate's bits: the judge's code, with N = 0 at depth 5
   judge-code : Given → ℕ → Code → Row
   -- claims and the answers buffer: the count, and the buffer after
@@ -75,6 +78,7 @@ Holds (code g X k) = (lowerRule X g 1 .code ≡ number k) × (upperRule X g 1 .c
 Holds (estimate-code x k) = codedEstimate (ofBits binary64 x) .code ≡ number k
 Holds (judged g x N d v) = judge g x N d ≡ verdict v
 Holds (settled g x N v d) = settleRule g (ofBits binary64 x) N ≡ settledAs v d
+Holds (figures A width N) = (greatestWidth A ≡ width) × (leastN A ≡ N)
 Holds (judge-code g x k) = judge g x 0 depths .code ≡ number k
 Holds (batch claims answers n after) =
     (batchRule twenty (length claims) (length answers) ≡ record { code = number done; count = n })
@@ -176,6 +180,26 @@ others =
     ∷ settled (grid (pos 700000000) one) 0x4006fbfa4a000000 1000 Refuted 5
     ∷ settled (grid (pos 700000000) one) 0x4006fbfe27000000 1000 Confirmed 4
     ∷ settled (grid (pos H-units) one) 0x400921fb57800000 10 Confirmed 5
+    -- e = 0, 0.5, 0.9, 0.99 and 0.999; the last A that has a least N, and the next; the last below 2^28, and 2^28
+    ∷ figures 0 2 1
+    ∷ figures 134217728 65 65
+    ∷ figures 241591910 577 577
+    ∷ figures 265751101 6337 6337
+    ∷ figures 268167020 63937 63937
+    ∷ figures 268173559 65535 65535
+    ∷ figures 268173560 65536 0
+    ∷ figures 268435455 17179869121 0
+    ∷ figures one 0 0
+    -- a width above 2 + 8 e / (1 - e), and a width of 1 at a small A
+    ∷ ends (grid (pos 808404641) 17526361) 5 done (pos 810539270) (pos 810539273)
+    ∷ ends (grid (pos 144272510) 1) 5 done (pos 144272510) (pos 144272511)
+    -- the estimate of 259103838 units lies inside its enclosure, and N = 1 is too small for it, as the least N is 2
+    ∷ ends (grid (pos 257812739) 1570330) 5 done (pos 259103838) (pos 259103840)
+    ∷ judged (grid (pos 257812739) 1570330) 0x3feee338bc000000 1 5 Undecided
+    ∷ judged (grid (pos 257812739) 1570330) 0x3feee338bc000000 2 5 Confirmed
+    -- the estimate of 220152628 units lies N + 3 units below its lower end, too near to be refuted
+    ∷ ends (grid (pos 73434105) 200644510) 5 done (pos 220152631) (pos 220152638)
+    ∷ judged (grid (pos 73434105) 200644510) 0x3fea3e8668000000 0 5 Undecided
     -- minus zero is 0 for every M; the least double of either sign, 2^-1074 and its negative
     ∷ judged (grid (pos 0) one) 0x8000000000000000 0 5 Confirmed
     ∷ judge-code (grid (minus 1) one) 0x8000000000000000 done
