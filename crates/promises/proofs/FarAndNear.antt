@@ -23,7 +23,7 @@ use Rattle.orbit.specs.declared.Cell.{Cell}
 use Rattle.orbit.proofs.Possible.{same-size, signed-value}
 use Rattle.enclosure.specs.Enclosure.{foundLower, foundUpper, mirrorEnds}
 use Rattle.enclosure.specs.declared.Enclosure.{Enclosure}
-use Rattle.enclosure.proofs.Encloses.{Encloses, code-zero, encloses, always}
+use Rattle.enclosure.proofs.Encloses.{Encloses, always}
 use Rattle.units.specs.Units.{mirrorDouble, product, floorAndCeiling, estimate-check}
 use Rattle.units.specs.Exact.{Rounded}
 use Rattle.units.specs.declared.Units.{Units}
@@ -35,6 +35,7 @@ use Rattle.judge.specs.declared.Verdict.the-variants.{Confirmed, Refuted}
 use Rattle.judge.proofs.Kept.{never-both, verdict-confirmed, verdict-refuted}
 use Rattle.judge.proofs.Answered.{claims, case-in, answered}
 use Rattle.judge.proofs.Figures.{inside-confirmed, far-below, far-above}
+use Rattle.promises.proofs.Widths.{ends, found}
 use Rattle.promises.specs.Figures.{enclosureOf, claimFor, signedFloor, signedCeiling, floorOf, ceilingOf, SignedRounded}
 
 -- ---- the signed numbers, by those of the problem that was posed
@@ -101,23 +102,26 @@ module _ (m : ℤ) (a : ℕ) (x : Float) (n : ℕ) (z : judgeRule (claimFor m a 
   pub enclosed : enclosureOf m a .code ≡ 0
   enclosed = always (grid m a) (split (problemChecks (grid m a) depths) (estimate-check (estimateOf (claimFor m a x n)) ∷ n-check n ∷ []) checks .0)
 
-  found : Encloses cell depths
-  found = encloses (grid m a) depths enclosed
+  abbrev lower : ℕ
+  lower = foundLower cell depths
 
-  ends : enclosureOf m a ≡ mirrorEnds (negative m) (foundLower cell depths) (foundUpper cell depths)
-  ends = code-zero (grid m a) depths enclosed .ends
+  abbrev upper : ℕ
+  upper = foundUpper cell depths
+
+  tight : Encloses cell depths
+  tight = found m a enclosed
 
   pub confirmed : a < one → enclosureOf m a .lower ≤ℤ floorOf m x → ceilingOf m x ≤ℤ enclosureOf m a .upper
       → 1 ≤ n → 64 * a ≤ (n - 1) * (one - a) → judgeRule (claimFor m a x n) ≡ verdict Confirmed
   confirmed under low high some far =
       let (f, c) =
-      inside-parts (foundLower cell depths) (foundUpper cell depths) units (negative m)
-      (subst (λ (r : Enclosure). r .lower ≤ℤ floorOf m x) ends low) (subst (λ (r : Enclosure). ceilingOf m x ≤ℤ r .upper) ends high) in
+      inside-parts lower upper units (negative m)
+      (subst (λ (r : Enclosure). r .lower ≤ℤ floorOf m x) (ends m a enclosed) low) (subst (λ (r : Enclosure). ceilingOf m x ≤ℤ r .upper) (ends m a enclosed) high) in
       answered (claimFor m a x n) checks
       ∙ ap verdict
       (verdict-confirmed cell units n depths
-      (inside-confirmed (natAbs m) a units n (limits .problem .cell .mean) (omega arith) (foundLower cell depths) (foundUpper cell depths)
-      (found .upper .within) some far f c (found .lower .next) (found .upper .next)))
+      (inside-confirmed (natAbs m) a units n (limits .problem .cell .mean) (omega arith) lower upper
+      (tight .upper .within) some far f c (tight .lower .next) (tight .upper .next)))
 
   refutes : T (refuted cell depths units n) → judgeRule (claimFor m a x n) ≡ verdict Refuted
   refutes t =
@@ -128,53 +132,53 @@ module _ (m : ℤ) (a : ℕ) (x : Float) (n : ℕ) (z : judgeRule (claimFor m a 
 
   -- the distance from f + N + 1 up to the lower end of the problem that was posed, and from its upper end up to c - N - 1
   module _ (under : a < one) {y : ℤ} (far : pos (32 * a) ≤ℤ (y *ℤ pos (one - a))) where
-    low-far : Is y (foundLower cell depths) (units .floor + (n + 1)) → judgeRule (claimFor m a x n) ≡ verdict Refuted
+    low-far : Is y lower (units .floor + (n + 1)) → judgeRule (claimFor m a x n) ≡ verdict Refuted
     low-far i =
-        let (e, k) = distance a (foundLower cell depths) (units .floor + (n + 1)) under i far in
-        let w = found .lower .within in
+        let (e, k) = distance a lower (units .floor + (n + 1)) under i far in
+        let w = tight .lower .within in
         refutes
-        (far-below (natAbs m) a units n (limits .problem .cell .mean) (omega arith) (foundLower cell depths)
-        (foundLower cell depths - (units .floor + (n + 1))) (omega arith) (found .lower .accepted) (omega arith) k)
+        (far-below (natAbs m) a units n (limits .problem .cell .mean) (omega arith) lower
+        (lower - (units .floor + (n + 1))) (omega arith) (tight .lower .accepted) (omega arith) k)
 
-    high-far : Is y (units .ceiling) (foundUpper cell depths + (n + 1)) → judgeRule (claimFor m a x n) ≡ verdict Refuted
+    high-far : Is y (units .ceiling) (upper + (n + 1)) → judgeRule (claimFor m a x n) ≡ verdict Refuted
     high-far i =
-        let (e, k) = distance a (units .ceiling) (foundUpper cell depths + (n + 1)) under i far in
+        let (e, k) = distance a (units .ceiling) (upper + (n + 1)) under i far in
         refutes
-        (far-above (natAbs m) a units n (limits .problem .cell .mean) (omega arith) (foundUpper cell depths)
-        (units .ceiling - (foundUpper cell depths + (n + 1))) (limits .units .ceiling) (found .upper .accepted) (omega arith) k)
+        (far-above (natAbs m) a units n (limits .problem .cell .mean) (omega arith) upper
+        (units .ceiling - (upper + (n + 1))) (limits .units .ceiling) (tight .upper .accepted) (omega arith) k)
 
   below-parts : (mirrored : Bool) → a < one
       → pos (32 * a)
-      ≤ℤ ((mirrorEnds mirrored (foundLower cell depths) (foundUpper cell depths) .lower -ℤ (signedFloor mirrored units +ℤ pos (n + 1))) *ℤ pos (one - a))
+      ≤ℤ ((mirrorEnds mirrored lower upper .lower -ℤ (signedFloor mirrored units +ℤ pos (n + 1))) *ℤ pos (one - a))
       → judgeRule (claimFor m a x n) ≡ verdict Refuted
   below-parts false under far =
-      low-far under far (shift (is-minus (is-pos (foundLower cell depths)) (is-add (is-pos (units .floor)) (is-pos (n + 1)))) (omega arith))
+      low-far under far (shift (is-minus (is-pos lower) (is-add (is-pos (units .floor)) (is-pos (n + 1)))) (omega arith))
   below-parts true under far =
       high-far under far
-      (shift (is-minus (is-neg (is-pos (foundUpper cell depths))) (is-add (is-neg (is-pos (units .ceiling))) (is-pos (n + 1)))) (omega arith))
+      (shift (is-minus (is-neg (is-pos upper)) (is-add (is-neg (is-pos (units .ceiling))) (is-pos (n + 1)))) (omega arith))
 
   above-parts : (mirrored : Bool) → a < one
       → pos (32 * a)
-      ≤ℤ (((signedCeiling mirrored units -ℤ pos (n + 1)) -ℤ mirrorEnds mirrored (foundLower cell depths) (foundUpper cell depths) .upper) *ℤ pos (one - a))
+      ≤ℤ (((signedCeiling mirrored units -ℤ pos (n + 1)) -ℤ mirrorEnds mirrored lower upper .upper) *ℤ pos (one - a))
       → judgeRule (claimFor m a x n) ≡ verdict Refuted
   above-parts false under far =
       high-far under far
-      (shift (is-minus (is-minus (is-pos (units .ceiling)) (is-pos (n + 1))) (is-pos (foundUpper cell depths))) (omega arith))
+      (shift (is-minus (is-minus (is-pos (units .ceiling)) (is-pos (n + 1))) (is-pos upper)) (omega arith))
   above-parts true under far =
       low-far under far
-      (shift (is-minus (is-minus (is-neg (is-pos (units .floor))) (is-pos (n + 1))) (is-neg (is-pos (foundLower cell depths)))) (omega arith))
+      (shift (is-minus (is-minus (is-neg (is-pos (units .floor))) (is-pos (n + 1))) (is-neg (is-pos lower))) (omega arith))
 
   pub refuted-below : a < one → pos (32 * a) ≤ℤ ((enclosureOf m a .lower -ℤ (floorOf m x +ℤ pos (n + 1))) *ℤ pos (one - a))
       → judgeRule (claimFor m a x n) ≡ verdict Refuted
   refuted-below under far =
       below-parts (negative m) under
-      (subst (λ (r : Enclosure). pos (32 * a) ≤ℤ ((r .lower -ℤ (floorOf m x +ℤ pos (n + 1))) *ℤ pos (one - a))) ends far)
+      (subst (λ (r : Enclosure). pos (32 * a) ≤ℤ ((r .lower -ℤ (floorOf m x +ℤ pos (n + 1))) *ℤ pos (one - a))) (ends m a enclosed) far)
 
   pub refuted-above : a < one → pos (32 * a) ≤ℤ (((ceilingOf m x -ℤ pos (n + 1)) -ℤ enclosureOf m a .upper) *ℤ pos (one - a))
       → judgeRule (claimFor m a x n) ≡ verdict Refuted
   refuted-above under far =
       above-parts (negative m) under
-      (subst (λ (r : Enclosure). pos (32 * a) ≤ℤ (((ceilingOf m x -ℤ pos (n + 1)) -ℤ r .upper) *ℤ pos (one - a))) ends far)
+      (subst (λ (r : Enclosure). pos (32 * a) ≤ℤ (((ceilingOf m x -ℤ pos (n + 1)) -ℤ r .upper) *ℤ pos (one - a))) (ends m a enclosed) far)
 
   pub rounded : SignedRounded x (mirror (negative m) (pos (product x))) (den x) (floorOf m x) (ceilingOf m x)
   rounded =

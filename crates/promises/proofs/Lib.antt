@@ -7,6 +7,7 @@ pub mod Bytes
 pub mod Demand2
 pub mod Demand3
 pub mod Alike
+pub mod Widths
 pub mod FarAndNear
 pub mod Figures
 pub mod Further
