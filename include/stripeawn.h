@@ -135,9 +135,9 @@ extern "C" {
 
 /* Version. */
 #define STRIPEAWN_VERSION_MAJOR 0
-#define STRIPEAWN_VERSION_MINOR 5
+#define STRIPEAWN_VERSION_MINOR 6
 #define STRIPEAWN_VERSION_PATCH 0
-#define STRIPEAWN_VERSION "0.5.0"
+#define STRIPEAWN_VERSION "0.6.0"
 
 /* Limits: the greatest value taken. M goes down to -H, and X to -T. */
 #define STRIPEAWN_M_MAX 843314856     /* H, the whole part of pi 2^28      */
@@ -485,7 +485,7 @@ struct stripeawn_settled stripeawn_settle(int32_t m, uint32_t a,
 
 /*
 ** stripeawn_greatest_width: how far apart the ends of an enclosure can be.
-** stripeawn_least_n: the least tolerance that confirms every right answer.
+** stripeawn_least_n: the least tolerance sure to confirm a right answer.
 **
 ** Given:
 **    a   A, 0 to 2^28; of an e off the grid, 2^28 e rounded down

@@ -9,10 +9,13 @@ import difflib
 import os
 import re
 import sys
+from fractions import Fraction
 from pathlib import Path
 
 LEFT_OUT = "..."
-FOLDERS = "scripts|examples|docs|include|tests|bench|crates"
+FOLDERS = "scripts|examples|docs|include|tests|bench|crates|plot"
+ECCENTRICITIES = ("0", "0.5", "0.9", "0.99", "0.999")
+ONE, N_MAX = 2 ** 28, 65535
 
 
 def blocks(text, language):
@@ -64,6 +67,30 @@ def check_blocks(text, output):
                     True)
 
 
+def figures(e):
+    """A, the greatest width and the least N of R66, as digits, by counting:
+    the first width whose next R63 rules out, and the first N of R64."""
+    a = int(Fraction(e) * ONE)
+    width = next(w for w in range(2, ONE) if (w - 1) * (ONE - a) >= 64 * a)
+    least = next(n for n in range(1, N_MAX + 1)
+                 if (n - 1) * (ONE - a) >= 64 * a)
+    return [e, *map(str, (a, width, least))]
+
+
+def check_figures(text):
+    """README.md and the header have the same table of figures."""
+    wanted = [figures(e) for e in ECCENTRICITIES]
+    header = Path("include/stripeawn.h").read_text()
+    tables = {"README.md": [
+        [cell.strip().replace(",", "") for cell in line.strip("|").split("|")]
+        for line in re.findall(r"^\| 0.*\|$", text, re.M)]}
+    tables["the header"] = [line.split()[1:] for line in re.findall(
+        r"^\*\*     0\S* +\d+ +\d+ +\d+$", header, re.M)]
+    for name, rows in tables.items():
+        if rows != wanted:
+            yield f"the figures of {name} are {rows}, not {wanted}"
+
+
 def check_run(output):
     """scripts/run ends with the answers to its two claims."""
     headings = list(sections(output).items())
@@ -93,7 +120,7 @@ def main(arguments):
         return 2
     text, output = (Path(name).read_text() for name in arguments)
     wrong = [*check_blocks(text, output), *check_run(output),
-             *check_names(text)]
+             *check_names(text), *check_figures(text)]
     for sentence in wrong:
         print(f"readme: {sentence}")
     return 1 if wrong else 0
