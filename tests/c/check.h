@@ -113,6 +113,7 @@ void test_judge(void);
 void test_undecided(void);
 void test_settle(void);
 void test_settle_limits(void);
+void test_figures(void);
 void test_mirror(void);
 void test_estimates(void);
 void test_order(void);

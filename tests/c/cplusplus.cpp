@@ -172,6 +172,19 @@ static void batches()
     batch("cut claims", claims, room, 7, painted);
 }
 
+static void figures()
+{
+    uint64_t width = stripeawn_greatest_width(STRIPEAWN_A_MAX - 1);
+    uint32_t n = stripeawn_least_n(STRIPEAWN_A_MAX / 2);
+
+    check("greatest_width", 0, 0, width == UINT64_C(17179869121) &&
+                                      stripeawn_greatest_width(0) == 2);
+    check("least_n", 0, 0, n == 65 && stripeawn_least_n(0) == 1);
+    check("no figures", 0, 0,
+          stripeawn_greatest_width(STRIPEAWN_A_MAX) == 0 &&
+              stripeawn_least_n(STRIPEAWN_A_MAX) == 0);
+}
+
 static void names()
 {
     check("name", 0, 0, std::strcmp(stripeawn_name(16), "Confirmed") == 0);
@@ -187,6 +200,7 @@ int main()
     doubles();
     refused_doubles();
     batches();
+    figures();
     names();
     return failed != 0;
 }

@@ -1,7 +1,7 @@
 /*
 ** header.c: the numbers that the header names, their names in words, the
-** layout of results, the types of the entries for doubles, and what the notes
-** on these say of M in degrees.
+** layout of results, the types of the entries for doubles and of the figures,
+** and what the notes on these entries say of M in degrees.
 */
 #include <math.h>
 #include <stddef.h>
@@ -187,6 +187,17 @@ static void test_double_entries(void)
     named(HERE, settle(units(2), 0.0, units(3), 1).depth, 1);
 }
 
+/* The same; a width may need more than 32 bits. */
+static void test_figure_types(void)
+{
+    uint64_t (*const greatest_width)(uint32_t) = stripeawn_greatest_width;
+    uint32_t (*const least_n)(uint32_t) = stripeawn_least_n;
+
+    named(HERE, greatest_width(1) >> 32, 0);
+    named(HERE, greatest_width(268435455) >> 32, 3);
+    named(HERE, least_n(1), 2);
+}
+
 /* H units as the header writes them out, and pi, which is above them. */
 static void test_greatest_m(void)
 {
@@ -239,6 +250,7 @@ void test_header(void)
     test_names();
     test_layout();
     test_double_entries();
+    test_figure_types();
     test_greatest_m();
     test_turns();
 }

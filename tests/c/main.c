@@ -16,6 +16,7 @@ int main(void)
     test_undecided();
     test_settle();
     test_settle_limits();
+    test_figures();
     test_mirror();
     test_estimates();
     test_order();
