@@ -213,12 +213,12 @@ static void orbit_kept(int32_t m, uint32_t a)
         tolerance_kept(&o, tolerances[i]);
 }
 
-/* M of a few hundred units or of any size, A close to 2^28 or to 0. */
+/* M of a few hundred units or of any size, A close to 2^28 or to 0, or 0. */
 static struct given near_limits(uint64_t *random)
 {
     uint64_t bits = random_bits(random);
     int32_t m = (int32_t)(random_bits(random) % (bits & 1 ? 1024 : H + 1));
-    uint32_t near = UINT32_C(1) << (bits >> 8) % 28;
+    uint32_t near = (UINT32_C(1) << (bits >> 8) % 29) / 2;
 
     return grid(bits & 2 ? -m : m, bits & 12 ? ONE - near : near);
 }
