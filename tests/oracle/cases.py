@@ -10,6 +10,7 @@ from functools import partial
 
 import doubles
 import draw_doubles
+import draw_figures
 import draw_grid
 import draw_spent
 import draws
@@ -135,6 +136,10 @@ def settle_case(rng, family):
                        draws.spoil(rng, n, TOLERANCE))
 
 
+def figures_case(rng):
+    return wire.figures(draw_figures.any_a(rng))
+
+
 def record(rng):
     """A claim record, now and then with a fault or with a damaged byte."""
     given, bits, n, d = claim(rng, draw_grid)
@@ -179,6 +184,7 @@ KINDS = {
     "ends": (GRID_END, 200_000, 10_000),
     "verdicts": (GRID_VERDICT, 200_000, 10_000),
     "settled": (GRID_SETTLE, 60_000, 10_000),
+    "figures": (figures_case, 40_000, 10_000),
     "batches": (batch_case, 8_000, 500),
     "enclosures": (GRID_ENCLOSURE, 20_000, 1_000),
     "proposals": (GRID_PROPOSAL, 20_000, 1_000),

@@ -6,8 +6,9 @@ SEED is a whole number, or 'time' for one from the clock. DRIVER is the
 command that runs driver.c linked with the library. Any difference is printed
 with its case, and the exit status is then 1. So it is where too few of the
 random cases or of the exact facts had a negative M, too few pairs of M and e
-as doubles were drawn for either, too few facts were of spent terms or of
-settled claims, or too few random claims were settled with one of the answers.
+as doubles were drawn for either, too few facts were of spent terms, of
+settled claims or of one of the figures, or too few random claims were settled
+with one of the answers.
 """
 import random
 import sys
@@ -20,6 +21,7 @@ from multiprocessing import Pool
 import cases
 import edges
 import facts
+import figures
 import records
 import rules
 import settle
@@ -37,6 +39,9 @@ PAIRS_LEAST = 100_000
 # Exact facts of spent terms that each run has to have, and of settled claims.
 SPENT_LEAST = 20_000
 SETTLED_LEAST = 100_000
+# Different orbits whose width each run has to hold against R63, estimates to
+# hold against R64, and as many against R65.
+FIGURES_LEAST = 100_000
 # Random claims of each entry that R62 has to settle with each of its answers.
 ANSWER_LEAST = 200
 
@@ -48,6 +53,7 @@ RULES = {
     wire.PROPOSE: lambda c: rules.propose(c.given),
     wire.JUDGE: lambda c: rules.judge(c.given, c.bits, c.n, c.depth),
     wire.SETTLE: lambda c: rules.settle(c.given, c.bits, c.n),
+    wire.FIGURES: lambda c: figures.figures(c.given.a),
     wire.BATCH: lambda c: (*records.judge_claims(
         c.claims, c.answers, c.answers_len), c.claims),
 }
@@ -56,14 +62,15 @@ RULES = {
 @dataclass
 class Found:
     """What was counted, how much of that had a negative M, the different
-    pairs of doubles, what is wrong, and how many claims an entry settled with
-    each answer. Of facts only those pairs count that were held against the
-    true root."""
+    pairs of doubles, what is wrong, how many claims an entry settled with
+    each answer, and the widths met of the different orbits. Of facts only
+    those pairs count that were held against the true root."""
     counts: Counter = field(default_factory=Counter)
     negative: int = 0
     pairs: set = field(default_factory=set)
     faults: list = field(default_factory=list)
     settled: Counter = field(default_factory=Counter)
+    widths: dict = field(default_factory=dict)
 
     def add(self, other):
         self.counts += other.counts
@@ -71,6 +78,7 @@ class Found:
         self.pairs |= other.pairs
         self.faults += other.faults
         self.settled += other.settled
+        self.widths.update(other.widths)
 
 
 def pairs_in(every_given):
@@ -125,15 +133,18 @@ def check_facts(driver, kind, rng, count):
     """How many facts were looked at, and those that do not hold."""
     found, with_root = Found(), []
     check = facts.KINDS[kind][0]
-    for given, true, sentence, *root in check(partial(wire.ask, driver), rng,
-                                              count):
+    for given, true, sentence, *beside in check(partial(wire.ask, driver), rng,
+                                                count):
         found.counts[kind] += 1
         found.negative += given is not None and given.negative
-        with_root += [given] if root else []
+        if kind == facts.WIDTHS:
+            found.widths[given], = beside
+        elif beside:
+            with_root.append(given)
         if not true:
             found.faults.append(
                 " ".join(map(str, ("not as demanded of", given, sentence,
-                                   *root))))
+                                   *beside))))
     found.pairs = pairs_in(with_root)
     return found
 
@@ -167,6 +178,13 @@ def facts_of(totals, kinds):
     return sum(totals["exact"].counts[kind] for kind in kinds)
 
 
+def figure_counts(totals):
+    """How much was held against each figure: what, and the number."""
+    yield "widths of different orbits", len(totals["exact"].widths)
+    for kind in (facts.INSIDE, facts.FAR):
+        yield kind, facts_of(totals, [kind])
+
+
 def answers(settled, name):
     """How many claims an entry settled with each answer: words and number."""
     for verdict, depth in settle.ANSWERS:
@@ -183,6 +201,8 @@ def too_few(totals):
                for kinds, least, what in (
                    (facts.SPENT_KINDS, SPENT_LEAST, "spent terms"),
                    (facts.SETTLED_KINDS, SETTLED_LEAST, "settled claims"))]
+    wanted += [("exact", count, FIGURES_LEAST, what)
+               for what, count in figure_counts(totals)]
     wanted += [("random", count, ANSWER_LEAST, f"{name} {words}")
                for name in settle.ENTRIES
                for words, count in answers(totals["random"].settled, name)]
@@ -195,6 +215,14 @@ def report_settled(settled):
         parts = (f"{count:,} {words}"
                  for words, count in answers(settled, name))
         print(f"compare: random cases of {name}: {', '.join(parts)}")
+
+
+def report_figures(totals):
+    parts = (f"{count:,} {what}" for what, count in figure_counts(totals))
+    greatest = max((figures.ratio(given, width) for given, width
+                    in totals["exact"].widths.items()), default=0)
+    print(f"compare: exact facts of figures: {', '.join(parts)}; the greatest "
+          f"(w - 2) (2^28 - A) / A is {greatest:.3f}")
 
 
 def report(totals, faults, seconds):
@@ -213,6 +241,7 @@ def report(totals, faults, seconds):
     print(f"compare: exact facts of spent terms: "
           f"{facts_of(totals, facts.SPENT_KINDS):,}, of settled claims: "
           f"{facts_of(totals, facts.SETTLED_KINDS):,}")
+    report_figures(totals)
     for sentence in faults[:SHOWN]:
         print(f"compare: DIFFERENT: {sentence}")
     if len(faults) > SHOWN:

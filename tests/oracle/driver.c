@@ -20,6 +20,7 @@ enum entry {
     PROPOSE,
     JUDGE,
     SETTLE,
+    FIGURES,
     BATCH,
     LOWER_END_DOUBLE,
     UPPER_END_DOUBLE,
@@ -118,6 +119,13 @@ static struct reply of_settled(struct stripeawn_settled s)
     return reply;
 }
 
+static struct reply of_figures(uint64_t width, uint32_t n)
+{
+    struct reply reply = { 0, (int64_t)width, n, 0, 0 };
+
+    return reply;
+}
+
 /* a is the length of the claims, n that of the answers, depth their room. */
 static void answer_batch(const struct request *r)
 {
@@ -182,6 +190,9 @@ static struct reply ask(const struct request *r)
     case SETTLE:
         return of_settled(
             stripeawn_settle(r->m, r->a, double_of(r->bits), r->n));
+    case FIGURES:
+        return of_figures(stripeawn_greatest_width(r->a),
+                          stripeawn_least_n(r->a));
     }
     return ask_double(r);
 }

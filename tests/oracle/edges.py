@@ -2,13 +2,15 @@
 double, batches whole, damaged and truncated.
 
 What is given is of the grid or doubles, and the cases beside it are alike.
-Those where sine's terms are spent are in spent.py, and in settle.py those
-where a claim that is settled without a depth is about to turn.
+Those where sine's terms are spent are in spent.py, in settle.py those where
+a claim that is settled without a depth is about to turn, and in figures.py
+those of the figures.
 """
 from functools import partial
 from itertools import product
 
 import doubles
+import figures
 import records
 import settle
 import spent
@@ -162,6 +164,7 @@ KINDS = {
     "settled": partial(claims, wire.settle, on_grid, TOLERANCES),
     "settled at limits": settle.limit_edges,
     "settled at turns": settle.turning_edges,
+    "figures": figures.edges,
     "batches": batches,
     "near parabolic": partial(near_parabolic, near_parabolic_grid),
     "double ends": partial(ends, off_grid, (-1, 0, 1, ONE, H, T, T + 1, -T),

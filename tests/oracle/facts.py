@@ -5,6 +5,7 @@ import corners
 import demands
 import draw_doubles
 import draw_grid
+import figures
 import mirrors
 import settle
 import spent
@@ -22,6 +23,9 @@ def round_of(kinds, check=mirrors.mirrors):
 SPENT_KINDS = ("spent sines", "spent ends")
 SETTLED_KINDS = ("settled", "double settled", "settled mirrors",
                  "settled grid points", "corners' settled")
+# Those of the figures: R63, whose facts each have a width beside them, R64 and
+# R65.
+WIDTHS, INSIDE, FAR = "widths", "inside estimates", "far estimates"
 
 # What checks each kind, how many cases a run has, how many make one piece of
 # work.
@@ -53,4 +57,9 @@ KINDS = {
     "settled grid points": (round_of(corners.SETTLED_ROUND,
                                      corners.grid_points), 8_000, 2_000),
     "corners' settled": (corners.settled, 8_000, 2_000),
+    WIDTHS: (figures.widths, 110_000, 5_000),
+    INSIDE: (figures.inside_estimates, 110_000, 5_000),
+    FAR: (figures.far_estimates, 110_000, 5_000),
+    "rises": (figures.rises, 4_000, 2_000),
+    "refusals": (figures.refusals, 4_000, 2_000),
 }

@@ -6,6 +6,7 @@ of the grid also of the same numbers as doubles.
 """
 import doubles
 import stated_doubles
+import stated_figures
 import stated_settle
 import stated_spent
 import wire
@@ -138,6 +139,7 @@ def stated():
                (NEGATIVE_BATCH, (0, 6, b"\x10\x04\x10\x01\x01\x11\xEE",
                                  NEGATIVE_BATCH.claims))]
     grid = (ends() + enclosures() + circles() + verdicts()
-            + stated_settle.on_grid())
-    return (sines + stated_spent.sines() + batches + grid + as_doubles(grid)
-            + stated_doubles.stated() + stated_settle.off_grid())
+            + stated_settle.on_grid() + stated_figures.on_grid())
+    return (sines + stated_spent.sines() + stated_figures.figures() + batches
+            + grid + as_doubles(grid) + stated_doubles.stated()
+            + stated_settle.off_grid())

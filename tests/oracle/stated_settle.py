@@ -99,7 +99,8 @@ def refused():
 def both_signs(stated):
     """With the mirror of each that has one."""
     found = [*stated]
-    return found + [(mirrors.mirror_call(call), answer)
+    return found + [(mirrors.mirror_call(call),
+                     mirrors.mirror_reply(call, answer))
                     for call, answer in found
                     if mirrors.has_mirror(call.given)]
 

@@ -6,11 +6,12 @@ from typing import NamedTuple
 from given import Doubles, Grid
 
 # The driver's order. Behind these come the entries of doubles in the same
-# order, each BATCH further on than its entry of the grid.
-(SINE, LOWER_END, UPPER_END, ENCLOSE, PROPOSE, JUDGE, SETTLE,
- BATCH) = range(8)
+# order, each BATCH further on than its entry of the grid; sine and figures
+# have none. The figures are the header's two functions of A, in one reply.
+(SINE, LOWER_END, UPPER_END, ENCLOSE, PROPOSE, JUDGE, SETTLE, FIGURES,
+ BATCH) = range(9)
 NAMES = ("sine", "lower_end", "upper_end", "enclose", "propose", "judge",
-         "settle", "judge_claims")
+         "settle", "figures", "judge_claims")
 
 # M and X are signed, but for the X of sine.
 REQUEST = struct.Struct("<I2i3I3Q")
@@ -67,8 +68,12 @@ def settle(given, bits, n):
     return Call(SETTLE, given, 0, n, 0, bits)
 
 
+def figures(a):
+    return Call(FIGURES, Grid(0, a))
+
+
 def name(call):
-    """Of the entry, as it is in C."""
+    """Of the entry, as it is in C, or figures."""
     ending = "_double" if isinstance(call.given, Doubles) else ""
     return NAMES[call.entry] + ending
 
