@@ -26,6 +26,7 @@ import records
 import rules
 import settle
 import stated
+import stated_figures
 import stated_spent
 import wire
 from given import Doubles
@@ -125,12 +126,17 @@ def compare_stated(driver):
     faults += [f"the rules of this folder do not spend the terms at X={x} "
                f"with {pairs} pairs" for x, pairs in stated_spent.PAIRS
                if rules.spending_pairs(x) != pairs]
-    return Found(Counter(numbers=len(calls) + len(stated_spent.PAIRS)),
-                 faults=faults)
+    faults += [f"the rules of this folder do not have the gap {gap} at A={a}"
+               for a, gap in stated_figures.GAPS
+               if figures.least_gap(a) != gap]
+    numbers = len(calls) + len(stated_spent.PAIRS) + len(stated_figures.GAPS)
+    return Found(Counter(numbers=numbers), faults=faults)
 
 
 def check_facts(driver, kind, rng, count):
-    """How many facts were looked at, and those that do not hold."""
+    """How many facts were looked at, and those that do not hold. Beside a
+    width's fact stands the width, beside any other the true root that it was
+    held against, if any."""
     found, with_root = Found(), []
     check = facts.KINDS[kind][0]
     for given, true, sentence, *beside in check(partial(wire.ask, driver), rng,

@@ -25,10 +25,12 @@ def near_one(rng, power):
     return ONE - 2 ** power - rng.choice((0, rng.getrandbits(power)))
 
 
+# The last way is where widths come nearest to what R63 allows.
 ORBITAL = (lambda rng: rng.randrange(ONE - 2 ** ORBIT_POWER + 1),
            lambda rng: small(rng, 28),
-           lambda rng: near_one(rng, ORBIT_POWER))
-# Any number of 32 bits.
+           lambda rng: near_one(rng, ORBIT_POWER),
+           lambda rng: rng.randrange(2 ** 24, 2 ** 25))
+# Any number of 32 bits, mostly with figures.
 ANY = (lambda rng: rng.randrange(ONE),
        lambda rng: small(rng, 28),
        lambda rng: near_one(rng, 0),

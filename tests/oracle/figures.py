@@ -17,7 +17,7 @@ import exact
 import wire
 from cells import up
 from draw_figures import jump
-from limits import H, ONE, T, TOLERANCE
+from limits import ONE, T, TOLERANCE
 from rules import CONFIRMED, REFUTED
 
 DEPTH = 5
@@ -122,8 +122,8 @@ def judged(ask, claims, wanted):
 def part(rng):
     """A part of a unit above 0: so many of 2^places."""
     places = rng.choice((1, 5, 22))
-    return rng.choice((1, 2 ** places - 1, rng.randrange(1, 2 ** places))), \
-        places
+    whole = 2 ** places
+    return rng.choice((1, whole - 1, rng.randrange(1, whole))), places
 
 
 def inside(rng, lower, upper):
@@ -137,15 +137,16 @@ def inside(rng, lower, upper):
 
 
 def inside_estimates(ask, rng, count):
-    """R64, with the least N and with a greater one. Where no N is large
-    enough there is nothing to judge."""
+    """R64, each with the least N, and one with a greater N. Where no N is
+    large enough there is nothing to judge."""
     claims = []
     for given, (_, *ends) in enclosed(ask, rng, count):
         least = least_n(given.a)
         if least:
             greater = min(least + 1 + draws.small(rng, 16), TOLERANCE)
-            claims += [(given, ends, bits, n) for bits in inside(rng, *ends)
-                       for n in (least, greater)]
+            found = inside(rng, *ends)
+            claims += [(given, ends, bits, least) for bits in found]
+            claims.append((given, ends, rng.choice(found), greater))
     return judged(ask, claims, CONFIRMED)
 
 
@@ -213,14 +214,14 @@ def refusals(ask, rng, count):
                         for side in (wire.lower, wire.upper)]))
     seen = set()
     for x, given in drawn:
-        size = left_side(x, given)
+        left = left_side(x, given)
         # Below the root the left side is below 0.
-        for name, beyond in (("lower", size), ("upper", -size)):
+        for name, beyond in (("lower", left), ("upper", -left)):
             code, accepted = next(replies)[:2]
             seen.add((name, accepted))
             holds = (beyond <= 0 if accepted
                      else ONE * beyond > -32 * given.a)
             yield (given, code == 0 and holds,
                    f"{name} end X={x} with code {code}, accepted {accepted}: "
-                   f"the left side is {float(size)}")
+                   f"the left side is {float(left)}")
     yield None, len(seen) == 4, f"of four answers only {seen} occurred"
