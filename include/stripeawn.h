@@ -508,7 +508,7 @@ struct stripeawn_settled stripeawn_settle(int32_t m, uint32_t a,
 **        ((c - n - 1) - upper) (2^28 - A) >= 32 A
 ** 4) No figure exists at A = 2^28, where e = 1, nor above, where A is out of
 **    range. From A = 268173560 up no n that may be given is large enough, and
-**    the least n is 0.
+**    the least n is 0. From A = 1 up to there both figures are one number.
 ** 5) The greatest width may be above 2^32, and from A = 268435436 up it is
 **    above T and says nothing.
 */
