@@ -348,6 +348,8 @@ struct stripeawn_end stripeawn_upper_end(int32_t x, int32_t m, uint32_t a,
 **    root by many thousands. The cell of an M off the grid is that one unit
 **    wide: at M = 1e-5 degrees, 46.85 units, and e = 1 the ends are 2709311
 **    and 2748072.
+** 4) On the grid, stripeawn_greatest_width says how far apart the ends can be
+**    at depth 5, for every e below 1.
 */
 struct stripeawn_enclosure stripeawn_enclose_double(double m, double e,
                                                     uint32_t depth);
@@ -436,6 +438,9 @@ struct stripeawn_proposal stripeawn_propose(int32_t m, uint32_t a);
 **    Take these four limits as doubles, where they are exact: in C an end,
 **    which is signed, becomes unsigned beside an unsigned n, and a limit
 **    below 0 wraps around.
+** 6) On the grid, stripeawn_least_n says with which n an estimate that lies
+**    inside the enclosure is sure to be Confirmed at depth 5, and its notes
+**    say which estimates are sure to be Refuted.
 */
 struct stripeawn_verdict stripeawn_judge_double(double m, double e,
                                                 double estimate, uint32_t n,
