@@ -493,7 +493,7 @@ struct stripeawn_settled stripeawn_settle(int32_t m, uint32_t a,
 ** stripeawn_least_n: the least tolerance sure to confirm a right answer.
 **
 ** Given:
-**    a   A, 0 to 2^28; of an e off the grid, 2^28 e rounded down
+**    a   A, 0 to 2^28
 ** Returned:
 **    the figure, units; 0 where none exists
 ** Notes:
@@ -516,6 +516,8 @@ struct stripeawn_settled stripeawn_settle(int32_t m, uint32_t a,
 **    the least n is 0. From A = 1 up to there both figures are one number.
 ** 5) The greatest width may be above 2^32, and from A = 268435436 up it is
 **    above T and says nothing.
+** 6) An e off the grid has no figure of its own. Those of A = 2^28 e, rounded
+**    down, are near what one would be, and nothing is promised of them.
 */
 static inline uint64_t stripeawn_greatest_width(uint32_t a)
 {

@@ -1,6 +1,5 @@
 -- The figures are what R63 and R64 allow, R66; and all that is promised of them. Assumes nothing.
-use mathlib.Core.Path.{_≡_, sym, ap, subst}
-use mathlib.Core.Bool.{Bool, cond}
+use mathlib.Core.Path.{_≡_, refl}
 use mathlib.Core.Logic.{_↔_}
 use Prim.Native.Nat.{ℕ, _+_, _-_, _*_, _≤_, _<_}
 use native.Mathlib.Omega.{arith}
@@ -18,13 +17,19 @@ use Rattle.promises.proofs.FarAndNear.{limits, enclosed, confirmed, ref
 
 -- ---- R66: the figures
 
-module _ (a : ℕ) (under : a < one) where
-  width-is : greatestWidth a ≡ 2 + down (64 * a - 1) (one - a)
-  width-is = ap (λ (t : Bool). cond t (2 + down (64 * a - 1) (one - a)) 0) (lt-ltb a one under)
+-- what holds of each N from a first one on, within the limit
+tolerable-from : (first n : ℕ) {Q : Type 0} → n ≤ N-units → 0 < first → (Q → first ≤ n) → (first ≤ n → Q)
+    → Q ↔ (0 < tolerable first) × (tolerable first ≤ n)
+tolerable-from first n {Q} few some f g =
+    by-test (λ (z : ℕ). Q ↔ (0 < z) × (z ≤ n)) (leb first N-units) first _ (λ t. (λ q. (some, f q), λ p. g (p .1)))
+    (λ t.
+    let k = nleb→lt first N-units t in
+    (λ q. absurd (let h = f q in let y : ⊥ = omega arith in y), λ p. absurd (let h = p .0 in let y : ⊥ = omega arith in y)))
 
+module _ (a : ℕ) (under : a < one) where
   greatest : (w : ℕ) → 2 < w → (w - 2) * (one - a) < 64 * a ↔ w ≤ greatestWidth a
   greatest w some =
-      let e = width-is in (
+      rw (lt-ltb a one under) (
         λ h. let k = le-down (w - 2) (64 * a - 1) (one - a) (omega arith) (omega arith) in omega arith,
         λ h.
             let k = down-le (64 * a - 1) (one - a) in
@@ -33,40 +38,23 @@ module _ (a : ℕ) (under : a < one) where
             omega (arith, mul-le-mul-right (one - a) j, mul-le-mul-right (one - a) i),
       )
 
-  -- whatever is 0 for a figure beyond the limit
-  least-by : (n : ℕ) → 1 ≤ n → n ≤ N-units
-      → 64 * a ≤ (n - 1) * (one - a) ↔ (0 < tolerable (1 + up (64 * a) (one - a))) × (tolerable (1 + up (64 * a) (one - a)) ≤ n)
-  least-by n some few =
-      let first = 1 + up (64 * a) (one - a) in
-      let right : 64 * a ≤ (n - 1) * (one - a) → first ≤ n =
-      λ h. let k = up-le (n - 1) (64 * a) (one - a) (omega arith) h in omega arith in
-      let left : first ≤ n → 64 * a ≤ (n - 1) * (one - a) =
-      λ h.
-      let k = le-up (64 * a) (one - a) (omega arith) in
-      let j : up (64 * a) (one - a) ≤ n - 1 = omega arith in
-      omega (arith, mul-le-mul-right (one - a) j) in
-      by-test (λ (z : ℕ). 64 * a ≤ (n - 1) * (one - a) ↔ (0 < z) × (z ≤ n)) (leb first N-units) first 0
-      (λ t. (λ h. (omega arith, right h), λ p. left (p .1)))
-      (λ t.
-      let k = nleb→lt first N-units t in
-      (λ h. let r = right h in absurd (let y : ⊥ = omega arith in y), λ p. absurd (let q = p .0 in let y : ⊥ = omega arith in y)))
+  two-least : 2 ≤ greatestWidth a
+  two-least = rw (lt-ltb a one under) (omega arith)
 
   least : (n : ℕ) → 1 ≤ n → n ≤ N-units → 64 * a ≤ (n - 1) * (one - a) ↔ (0 < leastN a) × (leastN a ≤ n)
   least n some few =
-      subst (λ (z : ℕ). 64 * a ≤ (n - 1) * (one - a) ↔ (0 < z) × (z ≤ n))
-      (sym (ap (λ (t : Bool). cond t (tolerable (1 + up (64 * a) (one - a))) 0) (lt-ltb a one under)))
-      (least-by n some few)
+      rw (lt-ltb a one under)
+      (tolerable-from (1 + up (64 * a) (one - a)) n few (omega arith)
+      (λ h. let k = up-le (n - 1) (64 * a) (one - a) (omega arith) h in omega arith)
+      (λ h.
+      let k = le-up (64 * a) (one - a) (omega arith) in
+      let j : up (64 * a) (one - a) ≤ n - 1 = omega arith in
+      omega (arith, mul-le-mul-right (one - a) j)))
 
 none : (a : ℕ) → one ≤ a → (greatestWidth a ≡ 0) × (leastN a ≡ 0)
-none a h = (
-  ap (λ (t : Bool). cond t (2 + down (64 * a - 1) (one - a)) 0) (le-ltb a one h),
-  ap (λ (t : Bool). cond t (tolerable (1 + up (64 * a) (one - a))) 0) (le-ltb a one h),
-)
+none a h = rw (le-ltb a one h) (refl, refl)
 
 -- ---- all of them
-
-two-least : (a : ℕ) → a < one → 2 ≤ greatestWidth a
-two-least a under = rw (width-is a under) (omega arith)
 
 pub figures : Figures
 figures =
