@@ -10,7 +10,7 @@ use native.Mathlib.Nat.{lt-of-not-le}
 use borrow.Author.Tests.{le-ltb}
 use lib.Dec.{T, T-not, lit≤, lit<}
 use lib.IntN.{ℤ, pos, negsuc, natAbs}
-use Rattle.whole.proofs.Bools.{passes}
+use Rattle.whole.proofs.Bools.{passes, not-failed}
 use Rattle.grid.specs.Grid.{H-units, T-units, depths}
 use Rattle.grid.specs.Codes.{Passed, checked, bad-m, limit-check, a-check, depth-check}
 use Rattle.grid.proofs.FirstCode.{split, only-last, join}
@@ -37,10 +37,6 @@ pub enclosures : (g : Given) (d : ℕ)
     → Makes (enclosureChecks g d) (λ (e : Enclosure). e .code) refusal (enclosed (mirroredOf g) (cellOf g) d)
 enclosures g d = makes (mirrored-done (mirroredOf g) _ _) (λ k. refl) tt
 
-is-accepted : (t : Bool) → not t ≡ false → T t
-is-accepted true e = tt
-is-accepted false e = absurd (let z : T true = tt in subst T e z)
-
 -- what code 0 says: the problem is within its limits, T is an upper end, and both ends are the searches'
 pub record CodeZero (g : Given) (d : ℕ) : Type 0 where
   pub problem : ProblemIn (problemAt (cellOf g) d)
@@ -52,7 +48,7 @@ code-zero g d z =
     let (p, q) = split (problemChecks g d) (T-check (cellOf g) d ∷ []) (enclosures g d .demand .passed .0 z) in
     record {
       problem = problem-in g d p;
-      top = is-accepted (upperEnd (cellOf g) d T-units) (q .0);
+      top = not-failed (upperEnd (cellOf g) d T-units) (λ n. subst T (q .0) n);
       ends = enclosures g d .says (enclosureRule g d) refl .made z;
     }
 

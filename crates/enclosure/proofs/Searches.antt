@@ -1,11 +1,12 @@
 -- Where a search ends, for any test and any top up to 2^30: its end is accepted and the next one in is not; and a test that
 -- accepts more has its lower end no lower and its upper end no higher. Assumes nothing.
 use mathlib.Core.Path.{_≡_, refl, subst}
-use mathlib.Core.Bool.{Bool, true, false, not}
+use mathlib.Core.Bool.{Bool, not}
 use mathlib.Core.Logic.{_⊎_, inl, inr}
 use Prim.Native.Nat.{ℕ, suc, _-_, _^_, _≤_, _<_}
 use native.Mathlib.Omega.{arith}
 use lib.Dec.{T, T-not, not-T}
+use Rattle.whole.proofs.Bools.{not-failed}
 use Rattle.whole.proofs.Parts.{by-test}
 use Rattle.enclosure.specs.Halving.{widest, lastBracket, lowerSearch, upperSearch}
 use Rattle.enclosure.proofs.Halving.{found, less-accepts}
@@ -21,10 +22,6 @@ pub record UpperFound (acc : ℕ → Bool) (top b : ℕ) : Type 0 where
   pub accepted : T (acc b)
   pub next : (b ≡ 0) ⊎ T (not (acc (b - 1)))
   pub within : b ≤ top
-
-not-not : (b : Bool) → T (not (not b)) → T b
-not-not true t = tt
-not-not false t = t
 
 opposites : (s t : Bool) → (T s → T t) → T (not t) → T (not s)
 opposites s t h n = not-T s (λ y. T-not t n (h y))
@@ -46,7 +43,7 @@ module _ (acc : ℕ → Bool) (top : ℕ) (some : 0 < top) (fits : top ≤ 2 ^ 3
       let e = f .next in
       let below : lastBracket opposite top .p ≡ lastBracket opposite top .q - 1 = omega arith in
       record {
-        accepted = not-not (acc (lastBracket opposite top .q)) (f .refused);
+        accepted = not-failed (acc (lastBracket opposite top .q)) (T-not (not (acc (lastBracket opposite top .q))) (f .refused));
         next = inr (subst (λ (x : ℕ). T (not (acc x))) below (f .accepted));
         within = f .high;
       })

@@ -79,6 +79,3 @@ module _ (o : Orbit) (X : ℕ) (within : X ≤ T-units) where
       above-test o X (Hi X depths) .1
       (refuse (one * o .m) (one * X) (o .a) 32 den9 (same sine X 9) (other sine X 9) (minus (Hi X depths)) (plus (Hi X depths))
       (den-pos sine sine-divides 9) (let h = high-near X within in omega arith) s)
-
-  pub above-spare : AboveBy 32 o X → T (aboveAt o X (Hi X depths))
-  above-spare s = over-spare (with-S9 o X 32 s)

@@ -18,8 +18,9 @@ use Rattle.orbit.specs.declared.Cell.{Cell}
 use Rattle.ends.specs.Ends.{endAt}
 use Rattle.ends.specs.Exact.{Sum, difference, sineOf, spare, Meets, Spare, sumOf}
 use Rattle.ends.proofs.BothEnds.{between}
+use Rattle.ends.proofs.InNaturals.{Past}
 use Rattle.ends.proofs.Corners.{below-corners, above-corners}
-use Rattle.ends.proofs.Exact.{below-true, above-true, below-spare, above-spare}
+use Rattle.ends.proofs.Exact.{below-true, above-true, below-spare, with-S9, over-spare}
 
 -- ---- the two sides of an inequality by naturals, of an X not below 0
 
@@ -81,17 +82,23 @@ other-sum false o X h =
 abbrev pub onGrid : ℕ → ℕ → Exact
 onGrid m a = record { p = pos m; q = 1; r = a; s = 1 }
 
--- R20, at depth 5
-pub grid-spare : (upper : Bool) (m a X : ℕ) → X ≤ T-units → Spare upper (sumOf upper) (onGrid m a) (pos X) → T (endAt upper (gridCell m a) depths X)
-grid-spare true m a X w s =
-    let o = onGrid m a in
-    let h =
-    le-parts (is-add (sine-parts (sumOf true) o X (S10-parts X)) (spare-parts (sumOf true) o X)) (difference-parts (sumOf true) o X) .0 s in
-    let t = above-spare (orbitAt m a) X w (omega arith) in
-    above-corners (gridCell m a) X (Hi X depths) .1 (t, t)
-grid-spare false m a X w s =
-    let o = onGrid m a in
-    let h =
-    le-parts (is-add (difference-parts (sumOf false) o X) (spare-parts (sumOf false) o X)) (sine-parts (sumOf false) o X (S9-parts X)) .0 s in
-    let t = below-spare (orbitAt m a) X w (omega arith) in
-    below-corners (gridCell m a) X (Lo X depths) .1 (t, t)
+module _ (m a X : ℕ) (w : X ≤ T-units) where
+  -- R20, at depth 5, with S_9 for either end
+  pub spare-accepts : (upper : Bool) → Past upper 32 (orbitAt m a) X → T (endAt upper (gridCell m a) depths X)
+  spare-accepts true s =
+      let t = over-spare (orbitAt m a) X w s in above-corners (gridCell m a) X (Hi X depths) .1 (t, t)
+  spare-accepts false s =
+      let t = below-spare (orbitAt m a) X w s in below-corners (gridCell m a) X (Lo X depths) .1 (t, t)
+
+  -- and with its own sum
+  pub grid-spare : (upper : Bool) → Spare upper (sumOf upper) (onGrid m a) (pos X) → T (endAt upper (gridCell m a) depths X)
+  grid-spare true s =
+      let o = onGrid m a in
+      let h =
+      le-parts (is-add (sine-parts (sumOf true) o X (S10-parts X)) (spare-parts (sumOf true) o X)) (difference-parts (sumOf true) o X) .0 s in
+      spare-accepts true (with-S9 (orbitAt m a) X 32 (omega arith))
+  grid-spare false s =
+      let o = onGrid m a in
+      let h =
+      le-parts (is-add (difference-parts (sumOf false) o X) (spare-parts (sumOf false) o X)) (sine-parts (sumOf false) o X (S9-parts X)) .0 s in
+      spare-accepts false (omega arith)

@@ -1,5 +1,6 @@
 -- The end tests of one M, not below 0, and one A, by naturals, and their exact inequalities there: the signed numbers go here,
 -- once. Assumes nothing.
+use mathlib.Core.Bool.{Bool, true, false}
 use mathlib.Core.Logic.{_↔_}
 use Prim.Native.Nat.{ℕ, _+_, _*_}
 use native.Mathlib.Omega.{arith}
@@ -28,6 +29,11 @@ AboveBy w o X = Spares w (one * o .m) (one * X) (o .a) den10 (other sine X 10) (
 -- an upper end's with S_9, which S_10 is not below
 abbrev pub OverBy : ℕ → Orbit → ℕ → Type 0
 OverBy w o X = Spares w (one * o .m) (one * X) (o .a) den9 (same sine X 9) (other sine X 9)
+
+-- either end's with S_9, `true` for an upper one
+abbrev pub Past : Bool → ℕ → Orbit → ℕ → Type 0
+Past true = OverBy
+Past false = BelowBy
 
 module _ (o : Orbit) (X : ℕ) where
   pub below-test : (b : ℤ) → T (belowAt o X b) ↔ Accepts (one * X) (one * o .m) (o .a) (plus b) (minus b)

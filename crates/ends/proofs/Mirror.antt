@@ -120,9 +120,9 @@ end-true upper g X w d j t =
 pub spare-accepted : (upper : Bool) (m : ℤ) (a X : ℕ) → X ≤ T-units
     → EndSpare (mirrorEnd (negative m) upper) (grid m a) (mirror (negative m) (pos X))
     → T (endAt upper (gridCell (natAbs m) a) depths X)
-spare-accepted upper (pos m) a X w s = grid-spare upper m a X w s
+spare-accepted upper (pos m) a X w s = grid-spare m a X w upper s
 spare-accepted upper (negsuc m) a X w s =
     let o = onGrid (suc m) a in
-    grid-spare upper (suc m) a X w
+    grid-spare (suc m) a X w upper
     (spares upper o (pos X) upper
     (subst (λ (sum : Bool). Spare (not upper) (sumOf sum) (negated o) (negℤ (pos X))) (twice true upper) s))

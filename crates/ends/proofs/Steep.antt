@@ -12,9 +12,10 @@ use Rattle.series.proofs.Sums.{same, other}
 use Rattle.series.proofs.Rise.{sine-rises}
 use Rattle.orbit.specs.Cell.{Orbit, orbitAt, gridCell}
 use Rattle.ends.specs.Ends.{endAt}
-use Rattle.ends.proofs.InNaturals.{BelowBy, OverBy}
+use Rattle.ends.proofs.InNaturals.{BelowBy, OverBy, Past}
 use Rattle.ends.proofs.Corners.{below-corners, above-corners}
-use Rattle.ends.proofs.Exact.{below-true, above-true, below-spare, with-S9, over-spare}
+use Rattle.ends.proofs.Exact.{below-true, above-true, with-S9}
+use Rattle.ends.proofs.Fractions.{spare-accepts}
 
 -- with u = a + b: a times the rise of x - S(x), and b times that of x
 rise-by : (u a b D Y k sX oX sY oY : ℕ) → u ≡ a + b → Y * D + sY + oX ≤ (Y + k) * D + sX + oY
@@ -48,11 +49,6 @@ abbrev pub Out : Bool → ℕ → ℕ → ℕ → Type 0
 Out true X Y k = Y ≡ X + k
 Out false X Y k = X ≡ Y + k
 
--- the end's exact inequality, with S_9 and w e units to spare
-abbrev Past : Bool → ℕ → Orbit → ℕ → Type 0
-Past true = OverBy
-Past false = BelowBy
-
 -- at most w e units are missing
 abbrev Short : Bool → ℕ → Orbit → ℕ → Type 0
 Short true w o X = minusF o X ≤ plusF o X + w * o .a * den9
@@ -71,13 +67,6 @@ outwards false o X Y k w v small x y out short far =
 -- ---- the tests of a point of the grid
 
 module _ (m a X : ℕ) (w : X ≤ T-units) where
-  -- 32 e units to spare
-  spare-accepts : (upper : Bool) → Past upper 32 (orbitAt m a) X → T (endAt upper (gridCell m a) depths X)
-  spare-accepts true s =
-      let t = over-spare (orbitAt m a) X w s in above-corners (gridCell m a) X (Hi X depths) .1 (t, t)
-  spare-accepts false s =
-      let t = below-spare (orbitAt m a) X w s in below-corners (gridCell m a) X (Lo X depths) .1 (t, t)
-
   accepted-short : (upper : Bool) → T (endAt upper (gridCell m a) depths X) → Short upper 0 (orbitAt m a) X
   accepted-short true t =
       let h = with-S9 (orbitAt m a) X 0 (above-true (orbitAt m a) X w depths (omega arith) (above-corners (gridCell m a) X (Hi X depths) .0 t .0)) in
@@ -88,10 +77,10 @@ module _ (m a X : ℕ) (w : X ≤ T-units) where
   -- refused as the other end
   refused-short : (upper : Bool) → T (not (endAt (not upper) (gridCell m a) depths X)) → Short upper 32 (orbitAt m a) X
   refused-short true n =
-      let h = lt-of-not-le (λ (s : BelowBy 32 (orbitAt m a) X). T-not (endAt false (gridCell m a) depths X) n (spare-accepts false s)) in
+      let h = lt-of-not-le (λ (s : BelowBy 32 (orbitAt m a) X). T-not (endAt false (gridCell m a) depths X) n (spare-accepts m a X w false s)) in
       omega arith
   refused-short false n =
-      let h = lt-of-not-le (λ (s : OverBy 32 (orbitAt m a) X). T-not (endAt true (gridCell m a) depths X) n (spare-accepts true s)) in
+      let h = lt-of-not-le (λ (s : OverBy 32 (orbitAt m a) X). T-not (endAt true (gridCell m a) depths X) n (spare-accepts m a X w true s)) in
       omega arith
 
 module _ (upper : Bool) (m a X Y k : ℕ) (small : a ≤ one) (x : X ≤ T-units) (y : Y ≤ T-units) (out : Out upper X Y k) where
