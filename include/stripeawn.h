@@ -135,9 +135,9 @@ extern "C" {
 
 /* Version. */
 #define STRIPEAWN_VERSION_MAJOR 0
-#define STRIPEAWN_VERSION_MINOR 6
+#define STRIPEAWN_VERSION_MINOR 7
 #define STRIPEAWN_VERSION_PATCH 0
-#define STRIPEAWN_VERSION "0.6.0"
+#define STRIPEAWN_VERSION "0.7.0"
 
 /* Limits: the greatest value taken. M goes down to -H, and X to -T. */
 #define STRIPEAWN_M_MAX 843314856     /* H, the whole part of pi 2^28      */
@@ -243,6 +243,11 @@ struct stripeawn_settled {
     uint32_t code;
     uint32_t verdict;                 /* 16, 17 or 18                      */
     uint32_t depth;                   /* least that gives it, 1 to 5       */
+};
+
+struct stripeawn_off {
+    uint32_t code;
+    uint32_t least, most;             /* units from the root, 0 to T       */
 };
 
 struct stripeawn_batch {
@@ -428,16 +433,11 @@ struct stripeawn_proposal stripeawn_propose(int32_t m, uint32_t a);
 ** 4) A wider tolerance may lose a verdict: M = 0, e = 1, estimate 0 is
 **    Confirmed at n = 0 and Undecided at n = 1. The verdict at n = 0 is
 **    still true, and so the root is within 1 unit too.
-** 5) After Undecided the enclosure may still decide. Let r be what
-**    stripeawn_enclose_double gives for the same m and e, or on the grid
-**    stripeawn_enclose for the same m and a, with code 0 at any depth, and
-**    x = estimate * STRIPEAWN_RADIAN, which is exact in doubles. Since the
-**    root is not below r.lower and not above r.upper, it is certainly
-**        more than n units off    if x < r.lower - n or x > r.upper + n
-**        at most n units off      if x >= r.upper - n and x <= r.lower + n
-**    Take these four limits as doubles, where they are exact: in C an end,
-**    which is signed, becomes unsigned beside an unsigned n, and a limit
-**    below 0 wraps around.
+** 5) After Undecided ask stripeawn_distance_double, or on the grid
+**    stripeawn_distance, which looks at the whole enclosure and takes no n:
+**    the root is certainly more than n units off where its least is above n,
+**    and at most n units off where its most is not above n. No answer of it
+**    contradicts a verdict.
 ** 6) On the grid, stripeawn_least_n says with which n an estimate that lies
 **    inside the enclosure is sure to be Confirmed at depth 5, and its notes
 **    say which estimates are sure to be Refuted.
@@ -487,6 +487,52 @@ struct stripeawn_settled stripeawn_settle_double(double m, double e,
 
 struct stripeawn_settled stripeawn_settle(int32_t m, uint32_t a,
                                           double estimate, uint32_t n);
+
+/*
+** stripeawn_distance_double: how far from the root an estimate certainly is.
+** stripeawn_distance: the same on the grid.
+**
+** Given:
+**    m          M, as a double in radians, of size H / 2^28 at most; on the
+**               grid in units, -H to H
+**    e          eccentricity as a double, 0 to 1; either zero counts as 0
+**    a          on the grid in place of e: A, 0 to 2^28
+**    estimate   angle in radians, 0 to T / 2^28; where m is below 0,
+**               -T / 2^28 to 0; either zero counts as 0
+** Returned:
+**    least      the root is at least so many units from the estimate
+**    most       the root is at most so many units from the estimate
+** Status:
+**    1 = size of M above H units; as a double, also NaN or infinite
+**    2 = e NaN, infinite, below 0 or above 1; on the grid A above 2^28
+**    4 = estimate NaN, infinite, opposing M, or of size above T units
+**    0 = done
+** Notes:
+** 1) With lower and upper as stripeawn_enclose_double, or on the grid
+**    stripeawn_enclose, gives them at depth 5, and f and c the estimate in
+**    units, rounded down and up,
+**        least = max(lower - c, f - upper, 0)
+**        most  = max(c - lower, upper - f)
+**    for M of either sign. Both mean the exact values of M, e and the
+**    estimate, on the grid or off it, and least is never above most.
+** 2) Where least is above 0 the whole unit that the estimate lies in is
+**    outside the enclosure, and the estimate is certainly no root, however
+**    small its residual is. Where least is 0 nothing speaks against it; how
+**    good it is, most says.
+** 3) No verdict is contradicted: where stripeawn_judge_double, or on the grid
+**    stripeawn_judge, says Confirmed, least is not above its n, and where it
+**    says Refuted, most is above its n, at any depth. After Undecided one of
+**    the two often settles the matter: M = 0, e = 1 and the estimate 2^-9,
+**    whose residual is a third of a unit, are 524288 and 524288 units off.
+** 4) It takes the time of an enclosure at depth 5, many times that of the
+**    judge: judge first, and ask for the distance where that is Undecided or
+**    the figure itself is wanted.
+*/
+struct stripeawn_off stripeawn_distance_double(double m, double e,
+                                               double estimate);
+
+struct stripeawn_off stripeawn_distance(int32_t m, uint32_t a,
+                                        double estimate);
 
 /*
 ** stripeawn_greatest_width: how far apart the ends of an enclosure can be.
