@@ -9,6 +9,7 @@ use Rattle.orbit.specs.Given.{Given, mirroredOf, cellOf, problemChecks}
 use Rattle.orbit.specs.declared.Cell.{Cell}
 use Rattle.ends.specs.Ends.{lowerEnd, upperEnd}
 use Rattle.enclosure.specs.declared.Enclosure.{Enclosure}
+use Rattle.enclosure.specs.declared.Found.{Found}
 use Rattle.enclosure.specs.Halving.{lowerSearch, upperSearch}
 
 -- R5, R28: code 6, by the test of T
@@ -26,6 +27,10 @@ foundLower c d = lowerSearch (lowerEnd c d) T-units
 -- R27: b, by the tests of upper ends from 0 to T
 unfoldable pub foundUpper : Cell → ℕ → ℕ
 foundUpper c d = upperSearch (upperEnd c d) T-units
+
+-- R26, R27: both
+abbrev pub foundEnds : Cell → ℕ → Found
+foundEnds c d = record { a = foundLower c d; b = foundUpper c d }
 
 -- R7: zeros beside a code
 abbrev pub refusal : ℕ → Enclosure

@@ -7,7 +7,7 @@ ghost use Rattle.orbit.specs.Given.{grid, doubles, ProblemIn};
 ghost use Rattle.orbit.specs.Posed.{ByProblem, PosedIn};
 ghost use Rattle.ends.specs.Corner.{Asked};
 ghost use Rattle.enclosure.specs.Halving.{lastBracket};
-ghost use Rattle.enclosure.specs.Enclosure.{T-check, refusal, mirrorEnds, enclosed, enclosureRule};
+ghost use Rattle.enclosure.specs.Enclosure.{T-check, foundEnds, refusal, mirrorEnds, enclosed, enclosureRule};
 ghost use Rattle.enclosure.specs.Moves.{movesP, EndsIn};
 use grid::Angle;
 use grid::codes;
@@ -20,6 +20,12 @@ pub struct Enclosure {
     pub code: u32,
     pub lower: i32,
     pub upper: i32,
+}
+
+// The ends that the searches find, in units, of the problem as it is posed.
+pub struct Found {
+    pub a: u32,
+    pub b: u32,
 }
 
 // Where a search stands.
@@ -91,7 +97,23 @@ fn between(a: u32, b: u32, mirrored: bool) -> Enclosure
     }
 }
 
-// Both searches, of a problem within its limits; code 6 where T is not accepted as an upper end.
+// R26, R27: both searches. The upper end is one where T is accepted as such.
+pub fn find_ends(problem: Problem) -> Found
+    requires { ⌜ ProblemIn problem ⌝ }
+    ensures { λ r. ⌜ r ≡ foundEnds (problem .cell) (problem .depth .pairs) ⌝ }
+{
+    let lower = last_bracket(problem, false);
+    if ends::upper(problem, Angle { units: 0 }) {
+        return Found { a: lower.p, b: 0 };
+    }
+    let upper = last_bracket(problem, true);
+    Found {
+        a: lower.p,
+        b: upper.q,
+    }
+}
+
+// The enclosure of a problem within its limits; code 6 where T is not accepted as an upper end.
 fn enclose_problem(problem: Problem, mirrored: bool) -> Enclosure
     requires { ⌜ ProblemIn problem ⌝ }
     ensures { λ r. ⌜ r ≡ checked (T-check (problem .cell) (problem .depth .pairs) ∷ []) refusal (enclosed mirrored (problem .cell) (problem .depth .pairs)) ⌝ }
@@ -99,12 +121,8 @@ fn enclose_problem(problem: Problem, mirrored: bool) -> Enclosure
     if !ends::upper(problem, Angle { units: grid::T }) {
         return refused(codes::NO_UPPER_END);
     }
-    let lower = last_bracket(problem, false);
-    if ends::upper(problem, Angle { units: 0 }) {
-        return between(lower.p, 0, mirrored);
-    }
-    let upper = last_bracket(problem, true);
-    between(lower.p, upper.q, mirrored)
+    let found = find_ends(problem);
+    between(found.a, found.b, mirrored)
 }
 
 // The enclosure of whatever was given, or its code.

@@ -8,9 +8,11 @@ ghost use lib.ListN.{length};
 ghost use Rattle.proposal.specs.Propose.{proposalRule};
 ghost use Rattle.judge.specs.Judge.{judgeRule};
 ghost use Rattle.judge.specs.Settle.{settleRule};
+ghost use Rattle.distance.specs.Distance.{distanceRule};
 ghost use Rattle.claims.specs.Form.{twenty};
 ghost use Rattle.claims.specs.Batch.{batchRule, answersAfter};
 use claims::Batch;
+use distance::Off;
 use enclosure::Enclosure;
 use ends::End;
 use judge::Judged;
@@ -113,6 +115,20 @@ pub extern "C" fn stripeawn_settle_double(m: f64, e: f64, estimate: f64, n: u32)
     ensures { λ r. ⌜ r ≡ settleRule (doubles m e) estimate n ⌝ }
 {
     judge::settle_double(m, e, estimate, n)
+}
+
+#[no_mangle]
+pub extern "C" fn stripeawn_distance(m: i32, a: u32, estimate: f64) -> Off
+    ensures { λ r. ⌜ r ≡ distanceRule (grid m a) estimate ⌝ }
+{
+    distance::distance(m, a, estimate)
+}
+
+#[no_mangle]
+pub extern "C" fn stripeawn_distance_double(m: f64, e: f64, estimate: f64) -> Off
+    ensures { λ r. ⌜ r ≡ distanceRule (doubles m e) estimate ⌝ }
+{
+    distance::distance_double(m, e, estimate)
 }
 
 #[no_mangle]
