@@ -5,8 +5,9 @@
 ** limits and past them. The entries with a depth are called with 0 to 6,
 ** which has the refusal of either side of its limits in it. settle, which
 ** takes none, is called with four tolerances, and held against the library's
-** own judge too, tried at one depth after the other. agree_double.c has the
-** entries that take M and e as doubles.
+** own judge too, tried at one depth after the other. distance, which takes
+** neither, is called with four estimates in place of one. agree_double.c has
+** the entries that take M and e as doubles.
 */
 #include <math.h>
 #include <stdio.h>
@@ -130,6 +131,19 @@ static void compare_settled(struct call c)
     }
 }
 
+static void compare_distance(struct call c)
+{
+    const double estimate = c.estimate;
+    int i;
+
+    for (i = 0; i < MOVES; i++) {
+        c.estimate = moved(estimate, i);
+        compare("distance", &c,
+                same_off(stripeawn_distance(c.m, c.a, c.estimate),
+                         plain_distance(c.m, c.a, c.estimate)));
+    }
+}
+
 static void compare_proposal(const struct call *c)
 {
     compare("propose", c,
@@ -171,6 +185,7 @@ static void compare_entries(const struct call *calls, size_t count)
         }
         compare_proposal(&calls[i]);
         compare_settled(calls[i]);
+        compare_distance(calls[i]);
     }
     compare_batches(calls, count);
 }

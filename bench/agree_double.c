@@ -4,8 +4,9 @@
 ** Every entry is called with the inputs off the grid and on it, with the
 ** mirror of both, and with each M and each e of two lists that have what is
 ** at a limit, next to it and past it. settle is held against the library's
-** own judge too, tried at one depth after the other, and on the grid the
-** library's entries of both kinds are held against each other.
+** own judge too, tried at one depth after the other, distance is called with
+** four estimates in place of one, and on the grid the library's entries of
+** both kinds are held against each other.
 */
 #include <float.h>
 #include <math.h>
@@ -132,6 +133,15 @@ static void hold_settled(const struct call *c, struct stripeawn_settled other)
                          other));
 }
 
+static void hold_off(const struct call *c, struct stripeawn_off other)
+{
+    const struct doubles *g = &c->given;
+
+    compare("distance", c,
+            same_off(stripeawn_distance_double(g->m, g->e, g->estimate),
+                     other));
+}
+
 static struct stripeawn_settled judged_in_turn(const struct call *c)
 {
     const struct doubles *g = &c->given;
@@ -142,6 +152,17 @@ static struct stripeawn_settled judged_in_turn(const struct call *c)
         judged[i] = stripeawn_judge_double(g->m, g->e, g->estimate, c->n,
                                            i + 1);
     return in_turn(judged);
+}
+
+static void compare_distance(struct call c)
+{
+    const struct doubles g = c.given;
+    int i;
+
+    for (i = 0; i < MOVES; i++) {
+        c.given.estimate = moved(g.estimate, i);
+        hold_off(&c, plain_distance_double(g.m, g.e, c.given.estimate));
+    }
 }
 
 /* The entries that take nothing beside the orbit. */
@@ -161,6 +182,7 @@ static void compare_beside(struct call c)
 
     hold_settled(&c, plain_settle_double(g.m, g.e, g.estimate, c.n));
     hold_settled(&c, judged_in_turn(&c));
+    compare_distance(c);
     for (c.depth = 0; c.depth <= STRIPEAWN_DEPTH_MAX + 1; c.depth++) {
         hold_lower_end(&c, plain_lower_end_double(g.x, g.m, g.e, c.depth));
         hold_upper_end(&c, plain_upper_end_double(g.x, g.m, g.e, c.depth));
@@ -211,6 +233,7 @@ static void compare_twins(int i)
     hold_proposal(&c, stripeawn_propose(m, a));
     hold_verdict(&c, stripeawn_judge(m, a, estimates[i], TOLERANCE, DEPTH));
     hold_settled(&c, stripeawn_settle(m, a, estimates[i], TOLERANCE));
+    hold_off(&c, stripeawn_distance(m, a, estimates[i]));
 }
 
 void compare_doubles(void)

@@ -36,6 +36,11 @@ int same_settled(struct stripeawn_settled s, struct stripeawn_settled p)
     return s.code == p.code && s.verdict == p.verdict && s.depth == p.depth;
 }
 
+int same_off(struct stripeawn_off s, struct stripeawn_off p)
+{
+    return s.code == p.code && s.least == p.least && s.most == p.most;
+}
+
 struct stripeawn_settled in_turn(
     const struct stripeawn_verdict judged[STRIPEAWN_DEPTH_MAX])
 {

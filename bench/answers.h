@@ -18,6 +18,8 @@ int same_verdicts(struct stripeawn_verdict s, struct stripeawn_verdict p);
 
 int same_settled(struct stripeawn_settled s, struct stripeawn_settled p);
 
+int same_off(struct stripeawn_off s, struct stripeawn_off p);
+
 /* What settle has to answer, by the judge's answers at depths 1 to 5. */
 struct stripeawn_settled in_turn(
     const struct stripeawn_verdict judged[STRIPEAWN_DEPTH_MAX]);

@@ -153,6 +153,14 @@ double draw_any_estimate(void)
     return draw(STRIPEAWN_X_MAX) * STRIPEAWN_UNIT;
 }
 
+/* To add -0.0 changes nothing, where 0.0 would take a zero's sign away. */
+double moved(double estimate, int move)
+{
+    static const double units[MOVES] = { -0.0, 0.5, -1000.25, 1000.25 };
+
+    return estimate + units[move] * STRIPEAWN_UNIT;
+}
+
 /* What was added later is drawn later: the others are what they ever were. */
 void make_inputs(void)
 {

@@ -37,6 +37,15 @@ extern uint32_t great_eccentricities[INPUTS];
 */
 void make_inputs(void);
 
+/*
+** An estimate as it is, half a unit up, and a thousand units to either side,
+** which is outside of most enclosures. The estimates above are whole units,
+** and show nothing of how one is rounded.
+*/
+enum { MOVES = 4 };
+
+double moved(double estimate, int move);
+
 /* Which orbits are drawn: any, on the grid or off it, or near M = 0 on it. */
 enum orbits { ANY_ON_GRID, ANY_OFF_GRID, NEAR_PARABOLIC };
 

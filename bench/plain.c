@@ -2,10 +2,10 @@
 ** plain.c: the rules of the library in plain C, the measure for bench.c.
 **
 ** Written to be read beside the rules: two running terms for sine, two
-** binary searches for an enclosure, fifty rotations for a proposal, four ends
-** for a verdict, which plain_sine.h, plain_cell.h and plain_judge.h have. All
-** this is for M not below 0; plain_mirror.c has the entries for every M. On
-** the grid a cell is one point.
+** binary searches for an enclosure or a distance, fifty rotations for a
+** proposal, four ends for a verdict, which plain_sine.h, plain_cell.h and
+** plain_judge.h have. All this is for M not below 0; plain_mirror.c has the
+** entries for every M. On the grid a cell is one point.
 */
 #include "plain_cell.h"
 #include "plain_judge.h"
@@ -88,4 +88,10 @@ struct stripeawn_settled unmirrored_settle(uint32_t m, uint32_t a,
                                            double estimate, uint32_t n)
 {
     return settle(point(m, a, 5), estimate, n, EACH_DEPTH);
+}
+
+struct stripeawn_off unmirrored_distance(uint32_t m, uint32_t a,
+                                         double estimate)
+{
+    return distance(point(m, a, 5), estimate);
 }

@@ -28,6 +28,8 @@ struct stripeawn_verdict plain_judge(int32_t m, uint32_t a, double estimate,
 struct stripeawn_settled plain_settle(int32_t m, uint32_t a, double estimate,
                                       uint32_t n);
 
+struct stripeawn_off plain_distance(int32_t m, uint32_t a, double estimate);
+
 struct stripeawn_end plain_lower_end_double(int32_t x, double m, double e,
                                             uint32_t depth);
 
@@ -45,6 +47,9 @@ struct stripeawn_verdict plain_judge_double(double m, double e,
 
 struct stripeawn_settled plain_settle_double(double m, double e,
                                              double estimate, uint32_t n);
+
+struct stripeawn_off plain_distance_double(double m, double e,
+                                           double estimate);
 
 struct stripeawn_batch plain_judge_claims(const uint8_t *claims,
                                           size_t claims_len,

@@ -27,6 +27,16 @@ struct problem {
     struct cell cell;
 };
 
+static inline int64_t lesser(int64_t p, int64_t q)
+{
+    return p < q ? p : q;
+}
+
+static inline int64_t greater(int64_t p, int64_t q)
+{
+    return p > q ? p : q;
+}
+
 /* Whether a double is 0 to a limit, in units: no comparison holds of a NaN. */
 static int within(double number, uint32_t limit)
 {

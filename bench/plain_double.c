@@ -8,16 +8,6 @@
 #include "plain_judge.h"
 #include "unmirrored.h"
 
-static int64_t lesser(int64_t p, int64_t q)
-{
-    return p < q ? p : q;
-}
-
-static int64_t greater(int64_t p, int64_t q)
-{
-    return p > q ? p : q;
-}
-
 static int lower_by(uint32_t x, struct cell c, struct series s)
 {
     return UNIT * ((int64_t)x - c.m.down) <=
@@ -87,4 +77,10 @@ struct stripeawn_settled unmirrored_settle_double(double m, double e,
                                                   uint32_t n)
 {
     return settle(rounded(m, e, 5), estimate, n, EACH_DEPTH);
+}
+
+struct stripeawn_off unmirrored_distance_double(double m, double e,
+                                                double estimate)
+{
+    return distance(rounded(m, e, 5), estimate);
 }

@@ -1,5 +1,6 @@
 /*
-** plain_judge.h: the judge over a cell, shared by plain.c and plain_double.c.
+** plain_judge.h: what is said of an estimate over a cell, shared by plain.c
+** and plain_double.c: the judge and the distance.
 **
 ** At one depth every term up to it is made, as everywhere else here. Where
 ** the least depth is looked for, the terms of an angle are made once and no
@@ -83,14 +84,17 @@ static struct stripeawn_settled decide(struct cell c, double estimate,
     return decided(18, STRIPEAWN_DEPTH_MAX);
 }
 
-/* The code of a problem, and the codes 4 and 5 after it. */
+/* The code of a problem, and code 4 after it. */
+static uint32_t estimate_code(uint32_t code, double estimate)
+{
+    return code == 0 && !within(estimate, STRIPEAWN_X_MAX) ? 4 : code;
+}
+
+/* The same, and code 5 after them. */
 static uint32_t claim_code(uint32_t code, double estimate, uint32_t n)
 {
-    if (code == 0 && !within(estimate, STRIPEAWN_X_MAX))
-        code = 4;
-    if (code == 0 && n > STRIPEAWN_N_MAX)
-        code = 5;
-    return code;
+    code = estimate_code(code, estimate);
+    return code == 0 && n > STRIPEAWN_N_MAX ? 5 : code;
 }
 
 static struct stripeawn_settled settle(struct problem p, double estimate,
@@ -111,6 +115,27 @@ static struct stripeawn_verdict judge(struct problem p, double estimate,
     struct stripeawn_settled s = settle(p, estimate, n, p.depth);
     struct stripeawn_verdict answer = { s.code, s.verdict };
 
+    return answer;
+}
+
+/*
+** How far the root is from an estimate. Of the enclosure only its searches
+** are needed: at the problem's depth, which is 5, T is accepted as an upper
+** end always.
+*/
+static struct stripeawn_off distance(struct problem p, double estimate)
+{
+    struct stripeawn_off answer = { estimate_code(p.code, estimate), 0, 0 };
+    int64_t a, b;
+    struct span s;
+
+    if (answer.code != 0)
+        return answer;
+    s = in_units(estimate);
+    a = search_lower(p.cell, p.depth);
+    b = search_upper(p.cell, p.depth);
+    answer.least = (uint32_t)greater(greater(a - s.up, s.down - b), 0);
+    answer.most = (uint32_t)greater(s.up - a, b - s.down);
     return answer;
 }
 

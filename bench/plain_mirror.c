@@ -133,3 +133,16 @@ struct stripeawn_settled plain_settle_double(double m, double e,
     return unmirrored_settle_double(unmirrored_double(m, m < 0), e,
                                     unmirrored_double(estimate, m < 0), n);
 }
+
+struct stripeawn_off plain_distance(int32_t m, uint32_t a, double estimate)
+{
+    return unmirrored_distance(unmirrored(m, m < 0), a,
+                               unmirrored_double(estimate, m < 0));
+}
+
+struct stripeawn_off plain_distance_double(double m, double e,
+                                           double estimate)
+{
+    return unmirrored_distance_double(unmirrored_double(m, m < 0), e,
+                                      unmirrored_double(estimate, m < 0));
+}

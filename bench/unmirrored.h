@@ -27,6 +27,9 @@ struct stripeawn_verdict unmirrored_judge(uint32_t m, uint32_t a,
 struct stripeawn_settled unmirrored_settle(uint32_t m, uint32_t a,
                                            double estimate, uint32_t n);
 
+struct stripeawn_off unmirrored_distance(uint32_t m, uint32_t a,
+                                         double estimate);
+
 /* The same of M in radians and e. */
 struct stripeawn_end unmirrored_lower_end_double(uint32_t x, double m,
                                                  double e, uint32_t depth);
@@ -46,5 +49,8 @@ struct stripeawn_verdict unmirrored_judge_double(double m, double e,
 struct stripeawn_settled unmirrored_settle_double(double m, double e,
                                                   double estimate,
                                                   uint32_t n);
+
+struct stripeawn_off unmirrored_distance_double(double m, double e,
+                                                double estimate);
 
 #endif
