@@ -9,8 +9,8 @@
 ** if given, is printed with the figures. The lines after these are of the
 ** library alone: what doubles cost, by the entries that take them against
 ** those of the grid; what it costs to be told the depth, by settle against
-** the judge; and at which depths settle decides, of CLAIMS claims of each
-** kind.
+** the judge; what it costs to have a distance made of an enclosure; and at
+** which depths settle decides, of CLAIMS claims of each kind.
 **
 ** The library makes no more terms of sine once they are spent: after one pair
 ** at small angles, which are most of what an enclosure tests near M = 0. The
@@ -82,6 +82,10 @@ static const struct doubles *given;
             P##_settle(anomalies[i], eccentricities[i], estimates[i],       \
                        TOLERANCE);                                          \
         sum += (uint64_t)r.verdict * 3 + r.depth; }
+#define DISTANCE(P) {                                                       \
+        struct stripeawn_off r =                                            \
+            P##_distance(anomalies[i], eccentricities[i], estimates[i]);    \
+        sum += (uint64_t)r.least * 3 + r.most; }
 #define LOWER_DOUBLE(P)                                                     \
         sum += P##_lower_end_double(given[i].x, given[i].m, given[i].e,     \
                                     DEPTH).accepted;
@@ -105,6 +109,10 @@ static const struct doubles *given;
             P##_settle_double(given[i].m, given[i].e, given[i].estimate,    \
                               TOLERANCE);                                   \
         sum += (uint64_t)r.verdict * 3 + r.depth; }
+#define DISTANCE_DOUBLE(P) {                                                \
+        struct stripeawn_off r =                                            \
+            P##_distance_double(given[i].m, given[i].e, given[i].estimate); \
+        sum += (uint64_t)r.least * 3 + r.most; }
 
 BOTH_SIDES(sine, SINE)
 BOTH_SIDES(sine_small, SINE_SMALL)
@@ -116,12 +124,14 @@ BOTH_SIDES(enclose_parabolic, ENCLOSE_PARABOLIC)
 BOTH_SIDES(propose, PROPOSE)
 BOTH_SIDES(judge, JUDGE)
 BOTH_SIDES(settle, SETTLE)
+BOTH_SIDES(distance, DISTANCE)
 BOTH_SIDES(lower_double, LOWER_DOUBLE)
 BOTH_SIDES(upper_double, UPPER_DOUBLE)
 BOTH_SIDES(enclose_double, ENCLOSE_DOUBLE)
 BOTH_SIDES(propose_double, PROPOSE_DOUBLE)
 BOTH_SIDES(judge_double, JUDGE_DOUBLE)
 BOTH_SIDES(settle_double, SETTLE_DOUBLE)
+BOTH_SIDES(distance_double, DISTANCE_DOUBLE)
 
 static uint64_t sum_of(const uint8_t *answers)
 {
@@ -164,6 +174,7 @@ static void measure_grid(long rounds)
     measure("propose", library_propose, plain_propose_pass, rounds);
     measure("judge", library_judge, plain_judge_pass, rounds);
     measure("settle", library_settle, plain_settle_pass, rounds);
+    measure("distance", library_distance, plain_distance_pass, rounds);
     measure("judge_claims, a claim", library_batch, plain_batch_pass, rounds);
 }
 
@@ -184,6 +195,8 @@ static const struct {
       library_judge },
     { "settle_double", library_settle_double, plain_settle_double_pass,
       library_settle },
+    { "distance_double", library_distance_double, plain_distance_double_pass,
+      library_distance },
 };
 
 enum { DOUBLE_ROWS = sizeof double_rows / sizeof double_rows[0] };
@@ -221,10 +234,22 @@ static void measure_settle(long rounds)
                    library_judge_double, rounds, settle_bar);
 }
 
+/* What distance may take of the enclosure's time at depth 5, same orbits. */
+static const double distance_bar = 1.05;
+
+static void measure_distance(long rounds)
+{
+    given = off_grid;
+    measure_to_bar("distance", library_distance, library_enclose, rounds,
+                   distance_bar);
+    measure_to_bar("distance_double", library_distance_double,
+                   library_enclose_double, rounds, distance_bar);
+}
+
 static void measure_all(long rounds)
 {
-    printf("nanoseconds a call at depth 5 (settle takes none), least of %ld "
-           "rounds\n", rounds);
+    printf("nanoseconds a call at depth 5 (settle and distance take none), "
+           "least of %ld rounds\n", rounds);
     print_heading("library", "plain C");
     measure_grid(rounds);
     measure_doubles(rounds);
@@ -235,6 +260,10 @@ static void measure_all(long rounds)
            "claims\n");
     print_heading("settle", "judge");
     measure_settle(rounds);
+    printf("the library alone, distance and the enclosure at depth 5 of the "
+           "same orbits\n");
+    print_heading("distance", "enclose");
+    measure_distance(rounds);
 }
 
 int main(int count, char **arguments)
