@@ -82,7 +82,7 @@ one-verdict Undecided Refuted e = absurd (let z : ⊥ = omega arith in z)
 
 module _ (k : Claim) where
   -- the verdict answered is the case's
-  answer-case : (v : Verdict) → judgeRule k ≡ verdict v → caseVerdict (caseAt k) ≡ v
+  pub answer-case : (v : Verdict) → judgeRule k ≡ verdict v → caseVerdict (caseAt k) ≡ v
   answer-case v h =
       one-verdict (caseVerdict (caseAt k)) v (ap (λ (j : Judged). j .verdict) (sym (answered k (judged-passed k v h)) ∙ h))
 

@@ -28,6 +28,7 @@ use Rattle.enclosure.specs.Enclosure.{refusal, enclosed, enclosureChecks}
 use Rattle.proposal.specs.Propose.{proposed, mirrorProposal, proposalRefused, proposalRule}
 use Rattle.judge.specs.Judge.{judgeRule}
 use Rattle.judge.specs.Settle.{settleRule}
+use Rattle.distance.specs.Distance.{distanceRule}
 use Rattle.promises.specs.Alike.{exchanged, Same, Mirrors}
 use Rattle.promises.specs.Further.{unitsDouble, Mirrored, Doubles}
 
@@ -39,7 +40,7 @@ record AlikeIn (g h : Given) : Type 0 where
 
 module _ {g h : Given} (e : AlikeIn g h) where
   same : mirroredOf g ≡ mirroredOf h → Same g h
-  unfolding proposalRule judgeRule settleRule
+  unfolding proposalRule judgeRule settleRule distanceRule
   same t =
       record {
         ends = λ upper x d. simp (e .m, e .a, e .cell, t);
@@ -47,11 +48,12 @@ module _ {g h : Given} (e : AlikeIn g h) where
         propose = simp (e .m, e .a, e .cell, t);
         judge = λ x n d. simp (e .m, e .a, e .cell, t);
         settle = λ x n. simp (e .m, e .a, e .cell, t);
+        distance = λ x. simp (e .m, e .a, e .cell, t);
       }
 
   -- a refusal is its own mirror, so that `through` serves
   mirrors : mirroredOf g ≡ true → mirroredOf h ≡ false → Mirrors g h
-  unfolding proposalRule judgeRule settleRule
+  unfolding proposalRule judgeRule settleRule distanceRule
   mirrors t f =
       record {
         ends = λ upper x d. simp (e .m, e .a, e .cell, t, f, size-sign false x);
@@ -61,6 +63,7 @@ module _ {g h : Given} (e : AlikeIn g h) where
             (sym (through (mirrorProposal true) proposalRefused (mirrorProposal false (proposed (cellOf h))) (checksOf h)));
         judge = λ x n d. simp (e .m, e .a, e .cell, t, f);
         settle = λ x n. simp (e .m, e .a, e .cell, t, f);
+        distance = λ x. simp (e .m, e .a, e .cell, t, f);
       }
 
 -- ---- the mirror

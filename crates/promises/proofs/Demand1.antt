@@ -30,6 +30,8 @@ use Rattle.judge.specs.declared.Verdict.{Verdict}
 use Rattle.judge.specs.declared.Verdict.the-variants.{Confirmed, Refuted, Undecided}
 use Rattle.judge.proofs.Answered.{claims}
 use Rattle.judge.proofs.SettleAnswers.{settlings}
+use Rattle.distance.specs.Distance.{distanceChecks, distanceRule}
+use Rattle.distance.proofs.Answered.{distances}
 use Rattle.claims.specs.Form.{twenty}
 use Rattle.claims.specs.Record.{recordChecks, claimAt, answerAt}
 use Rattle.claims.specs.Batch.{batchChecks, batchRule}
@@ -53,13 +55,13 @@ bytes claims i =
 in-order : (x a d n i : ℕ) (z : ℤ) (g : Given) (f : Float) (claims answers : List ℕ)
     → T (all (inOrder order)
     (sineChecks x d ∷ endChecks z g d ∷ enclosureChecks g d ∷ checksOf g ∷ problemChecks g d
-    ∷ claimChecks (claimOf g f n d) ∷ settleChecks g f n ∷ batchChecks twenty (length claims) (length answers)
+    ∷ claimChecks (claimOf g f n d) ∷ settleChecks g f n ∷ distanceChecks g f ∷ batchChecks twenty (length claims) (length answers)
     ∷ recordChecks twenty claims i ∷ (x-check x ∷ []) ∷ (signed-x-check z ∷ []) ∷ (a-check a ∷ []) ∷ (depth-check d ∷ []) ∷ (estimate-check f ∷ []) ∷ []))
 unfolding order
 in-order x a d n i z g f claims answers = tt
 
 pub demand-1 : Demand1
-unfolding sineRule proposalRule judgeRule settleRule batchRule order
+unfolding sineRule proposalRule judgeRule settleRule distanceRule batchRule order
 demand-1 =
     record {
       sine = λ x d. sines x d .demand;
@@ -69,6 +71,7 @@ demand-1 =
       propose = λ g. proposals g .demand;
       judge = λ c. claims c .demand;
       settle = λ g x n. settlings g x n .demand;
+      distance = λ g x. distances g x .demand;
       batch = λ claims answers. batches twenty (length claims) (length answers) .demand;
       lent = refused-kept twenty;
       byte = bytes;

@@ -7,27 +7,23 @@ use native.Mathlib.Omega.{arith}
 use native.Mathlib.Nat.{le-of-mul-le-mul-right}
 use lib.Dec.{T}
 use lib.IntN.{ℤ, pos, natAbs, _+ℤ_, _-ℤ_, _*ℤ_}
-use lib.Signed.{_≤ℤ_, _<ℤ_}
+use lib.Signed.{_≤ℤ_}
 use lib.Ieee.{Float}
-use lib.Ieee.Positive.{den, den-pos}
+use lib.Ieee.Positive.{den}
 use Rattle.whole.specs.Sign.{negative}
 use Rattle.whole.proofs.Parts.{Is, shift, is-pos, is-neg, is-add, is-minus, is-mul-right}
-use Rattle.whole.proofs.Order.{le-parts, lt-parts}
-use Rattle.grid.specs.Grid.{one, depths, T-units}
+use Rattle.whole.proofs.Order.{le-parts}
+use Rattle.grid.specs.Grid.{one, depths}
 use Rattle.grid.specs.Codes.{Passed, n-check}
 use Rattle.grid.proofs.FirstCode.{split}
 use Rattle.orbit.specs.Cell.{gridCell}
-use Rattle.orbit.specs.Mirror.{mirror}
 use Rattle.orbit.specs.Given.{grid, problemChecks}
 use Rattle.orbit.specs.declared.Cell.{Cell}
-use Rattle.orbit.proofs.Possible.{same-size, signed-value}
 use Rattle.enclosure.specs.Enclosure.{foundLower, foundUpper, mirrorEnds}
 use Rattle.enclosure.specs.declared.Enclosure.{Enclosure}
 use Rattle.enclosure.proofs.Encloses.{Encloses, always}
-use Rattle.units.specs.Units.{mirrorDouble, product, floorAndCeiling, estimate-check}
-use Rattle.units.specs.Exact.{Rounded}
+use Rattle.units.specs.Units.{estimate-check}
 use Rattle.units.specs.declared.Units.{Units}
-use Rattle.units.proofs.Rounding.{passed-rounded}
 use Rattle.judge.specs.Verdict.{refuted}
 use Rattle.judge.specs.Judge.{estimateOf, claimChecks, caseAt, verdict, judgeRule}
 use Rattle.judge.specs.Limits.{CaseIn}
@@ -35,8 +31,11 @@ use Rattle.judge.specs.declared.Verdict.the-variants.{Confirmed, Refuted}
 use Rattle.judge.proofs.Kept.{never-both, verdict-confirmed, verdict-refuted}
 use Rattle.judge.proofs.Answered.{claims, case-in, answered}
 use Rattle.judge.proofs.Figures.{inside-confirmed, far-below, far-above}
+use Rattle.distance.specs.Distance.{unitsOf}
+use Rattle.promises.specs.SignedUnits.{enclosureOf, signedFloor, signedCeiling, floorOf, ceilingOf, valueOf, SignedRounded}
+use Rattle.promises.specs.Figures.{claimFor}
+use Rattle.promises.proofs.SignedUnits.{signed-rounded}
 use Rattle.promises.proofs.Widths.{ends, found}
-use Rattle.promises.specs.Figures.{enclosureOf, claimFor, signedFloor, signedCeiling, floorOf, ceilingOf, SignedRounded}
 
 -- ---- the signed numbers, by those of the problem that was posed
 
@@ -62,27 +61,6 @@ distance a P Q under i far =
     let p : (one - a) * P ≡ (one - a) * (Q + (P - Q)) = ap (λ (n : ℕ). (one - a) * n) e in
     (e, omega arith)
 
--- f and c are the floor and the ceiling of p / q, with the sign
-module _ (p q : ℕ) (u : Units) (r : Rounded p q (u .floor) (u .ceiling)) where
-  floor-below : (mirrored : Bool) → (signedFloor mirrored u *ℤ pos q) ≤ℤ mirror mirrored (pos p)
-  floor-below false = le-parts (is-mul-right q (is-pos (u .floor))) (is-pos p) .1 (let h = r .floor-least in omega arith)
-  floor-below true = le-parts (is-mul-right q (is-neg (is-pos (u .ceiling)))) (is-neg (is-pos p)) .1 (let h = r .ceiling-least in omega arith)
-
-  floor-next : (mirrored : Bool) → mirror mirrored (pos p) <ℤ ((signedFloor mirrored u +ℤ pos 1) *ℤ pos q)
-  floor-next false = lt-parts (is-pos p) (is-mul-right q (is-add (is-pos (u .floor)) (is-pos 1))) .1 (let h = r .floor-most in omega arith)
-  floor-next true =
-      lt-parts (is-neg (is-pos p)) (is-mul-right q (is-add (is-neg (is-pos (u .ceiling))) (is-pos 1))) .1 (let h = r .ceiling-most in omega arith)
-
-  ceiling-above : (mirrored : Bool) → mirror mirrored (pos p) ≤ℤ (signedCeiling mirrored u *ℤ pos q)
-  ceiling-above false = le-parts (is-pos p) (is-mul-right q (is-pos (u .ceiling))) .1 (let h = r .ceiling-least in omega arith)
-  ceiling-above true = le-parts (is-neg (is-pos p)) (is-mul-right q (is-neg (is-pos (u .floor)))) .1 (let h = r .floor-least in omega arith)
-
-  ceiling-before : (mirrored : Bool) → ((signedCeiling mirrored u -ℤ pos 1) *ℤ pos q) <ℤ mirror mirrored (pos p)
-  ceiling-before false =
-      lt-parts (is-mul-right q (is-minus (is-pos (u .ceiling)) (is-pos 1))) (is-pos p) .1 (let h = r .ceiling-most in omega arith)
-  ceiling-before true =
-      lt-parts (is-mul-right q (is-minus (is-neg (is-pos (u .floor))) (is-pos 1))) (is-neg (is-pos p)) .1 (let h = r .floor-most in omega arith)
-
 -- ---- a claim of code 0
 
 module _ (m : ℤ) (a : ℕ) (x : Float) (n : ℕ) (z : judgeRule (claimFor m a x n) .code ≡ 0) where
@@ -90,7 +68,7 @@ module _ (m : ℤ) (a : ℕ) (x : Float) (n : ℕ) (z : judgeRule (claimFor m a 
   cell = gridCell (natAbs m) a
 
   abbrev units : Units
-  units = floorAndCeiling (mirrorDouble (negative m) x)
+  units = unitsOf (grid m a) x
 
   checks : Passed (claimChecks (claimFor m a x n))
   unfolding judgeRule
@@ -99,7 +77,7 @@ module _ (m : ℤ) (a : ℕ) (x : Float) (n : ℕ) (z : judgeRule (claimFor m a 
   pub limits : CaseIn (caseAt (claimFor m a x n))
   limits = case-in (claimFor m a x n) checks
 
-  pub enclosed : enclosureOf m a .code ≡ 0
+  pub enclosed : enclosureOf (grid m a) .code ≡ 0
   enclosed = always (grid m a) (split (problemChecks (grid m a) depths) (estimate-check (estimateOf (claimFor m a x n)) ∷ n-check n ∷ []) checks .0)
 
   abbrev lower : ℕ
@@ -111,12 +89,12 @@ module _ (m : ℤ) (a : ℕ) (x : Float) (n : ℕ) (z : judgeRule (claimFor m a 
   tight : Encloses cell depths
   tight = found m a enclosed
 
-  pub confirmed : a < one → enclosureOf m a .lower ≤ℤ floorOf m x → ceilingOf m x ≤ℤ enclosureOf m a .upper
+  pub confirmed : a < one → enclosureOf (grid m a) .lower ≤ℤ floorOf (grid m a) x → ceilingOf (grid m a) x ≤ℤ enclosureOf (grid m a) .upper
       → 1 ≤ n → 64 * a ≤ (n - 1) * (one - a) → judgeRule (claimFor m a x n) ≡ verdict Confirmed
   confirmed under low high some far =
       let (f, c) =
       inside-parts lower upper units (negative m)
-      (subst (λ (r : Enclosure). r .lower ≤ℤ floorOf m x) (ends m a enclosed) low) (subst (λ (r : Enclosure). ceilingOf m x ≤ℤ r .upper) (ends m a enclosed) high) in
+      (subst (λ (r : Enclosure). r .lower ≤ℤ floorOf (grid m a) x) (ends m a enclosed) low) (subst (λ (r : Enclosure). ceilingOf (grid m a) x ≤ℤ r .upper) (ends m a enclosed) high) in
       answered (claimFor m a x n) checks
       ∙ ap verdict
       (verdict-confirmed cell units n depths
@@ -168,31 +146,17 @@ module _ (m : ℤ) (a : ℕ) (x : Float) (n : ℕ) (z : judgeRule (claimFor m a 
       low-far under far
       (shift (is-minus (is-minus (is-neg (is-pos (units .floor))) (is-pos (n + 1))) (is-neg (is-pos lower))) (omega arith))
 
-  pub refuted-below : a < one → pos (32 * a) ≤ℤ ((enclosureOf m a .lower -ℤ (floorOf m x +ℤ pos (n + 1))) *ℤ pos (one - a))
+  pub refuted-below : a < one → pos (32 * a) ≤ℤ ((enclosureOf (grid m a) .lower -ℤ (floorOf (grid m a) x +ℤ pos (n + 1))) *ℤ pos (one - a))
       → judgeRule (claimFor m a x n) ≡ verdict Refuted
   refuted-below under far =
       below-parts (negative m) under
-      (subst (λ (r : Enclosure). pos (32 * a) ≤ℤ ((r .lower -ℤ (floorOf m x +ℤ pos (n + 1))) *ℤ pos (one - a))) (ends m a enclosed) far)
+      (subst (λ (r : Enclosure). pos (32 * a) ≤ℤ ((r .lower -ℤ (floorOf (grid m a) x +ℤ pos (n + 1))) *ℤ pos (one - a))) (ends m a enclosed) far)
 
-  pub refuted-above : a < one → pos (32 * a) ≤ℤ (((ceilingOf m x -ℤ pos (n + 1)) -ℤ enclosureOf m a .upper) *ℤ pos (one - a))
+  pub refuted-above : a < one → pos (32 * a) ≤ℤ (((ceilingOf (grid m a) x -ℤ pos (n + 1)) -ℤ enclosureOf (grid m a) .upper) *ℤ pos (one - a))
       → judgeRule (claimFor m a x n) ≡ verdict Refuted
   refuted-above under far =
       above-parts (negative m) under
-      (subst (λ (r : Enclosure). pos (32 * a) ≤ℤ (((ceilingOf m x -ℤ pos (n + 1)) -ℤ r .upper) *ℤ pos (one - a))) (ends m a enclosed) far)
+      (subst (λ (r : Enclosure). pos (32 * a) ≤ℤ (((ceilingOf (grid m a) x -ℤ pos (n + 1)) -ℤ r .upper) *ℤ pos (one - a))) (ends m a enclosed) far)
 
-  pub rounded : SignedRounded x (mirror (negative m) (pos (product x))) (den x) (floorOf m x) (ceilingOf m x)
-  rounded =
-      let t = negative m in
-      let passed = checks .1 .1 .1 .0 in
-      let (products, dens) = same-size t x in
-      let r : Rounded (product x) (den x) (units .floor) (units .ceiling) =
-      subst (λ (p : ℕ). Rounded p (den x) (units .floor) (units .ceiling)) products
-      (subst (λ (q : ℕ). Rounded (product (mirrorDouble t x)) q (units .floor) (units .ceiling)) dens (passed-rounded (mirrorDouble t x) passed)) in
-      record {
-        over-0 = den-pos x;
-        value = signed-value T-units t x passed;
-        floor-least = floor-below (product x) (den x) units r t;
-        floor-most = floor-next (product x) (den x) units r t;
-        ceiling-least = ceiling-above (product x) (den x) units r t;
-        ceiling-most = ceiling-before (product x) (den x) units r t;
-      }
+  pub rounded : SignedRounded x (valueOf (grid m a) x) (den x) (floorOf (grid m a) x) (ceilingOf (grid m a) x)
+  rounded = signed-rounded (grid m a) x (checks .1 .1 .1 .0)

@@ -36,6 +36,7 @@ use Rattle.claim_file.proofs.Output as program
 use Rattle.judge.proofs.SettleAnswers as settle
 use Rattle.promises.specs.Further.{Sums, Ends, Searches, Proposals, Estimates, Further}
 use Rattle.promises.proofs.Figures.{figures}
+use Rattle.promises.proofs.Distance.{distance}
 use Rattle.promises.proofs.Alike.{mirrored, doubles-met}
 use Rattle.promises.proofs.Mirror.{at-0}
 use Rattle.promises.proofs.Ends.{accepted-says, accepts, accepts-at, declines-at}
@@ -160,6 +161,7 @@ further =
             undecided = settle.none-decides;
           };
       figures = figures;
+      distance = distance;
       mirrored = mirrored;
       doubles = doubles-met;
       program = record { complete = program.complete; longer = program.longer; cut = program.cut };

@@ -7,9 +7,11 @@ pub mod Bytes
 pub mod Demand2
 pub mod Demand3
 pub mod Alike
+pub mod SignedUnits
 pub mod Widths
 pub mod FarAndNear
 pub mod Figures
+pub mod Distance
 pub mod Further
 pub mod Starred
 pub mod Unique

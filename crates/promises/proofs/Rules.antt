@@ -18,6 +18,8 @@ use Rattle.judge.specs.Judge.{caseAt, caseVerdict, judgeRule}
 use Rattle.judge.specs.Settle.{settleRule}
 use Rattle.judge.proofs.Answered as judge
 use Rattle.judge.proofs.SettleAnswers.{settlings}
+use Rattle.distance.specs.Distance.{distanceRule}
+use Rattle.distance.proofs.Answered.{distances}
 use Rattle.claims.specs.Form.{twenty}
 use Rattle.claims.specs.Record.{recordChecks, claimAt, answerAt}
 use Rattle.claims.specs.Batch.{batchRule}
@@ -28,7 +30,7 @@ use Rattle.promises.specs.Rules.{Rules}
 use Rattle.promises.proofs.Demand1.{demand-1}
 
 pub rules : Rules
-unfolding sineRule proposalRule judgeRule settleRule batchRule answerAt
+unfolding sineRule proposalRule judgeRule settleRule distanceRule batchRule answerAt
 rules =
     record {
       sine = λ x d. sines x d .says _ refl .made;
@@ -38,6 +40,7 @@ rules =
       propose = λ g. proposals g .says _ refl .made;
       judge = λ c. judge.claims c .says _ refl .made;
       settle = λ g x n. settlings g x n .says _ refl .made;
+      distance = λ g x. distances g x .says _ refl .made;
       count = λ claims answers. batches twenty (length claims) (length answers) .says _ refl .made;
       written = byte-answered twenty;
       byte = λ claims i e.

@@ -22,6 +22,7 @@ unique =
       propose = λ g. one _;
       judge = λ c. one _;
       settle = λ g x n. one _;
+      distance = λ g x. one _;
       judge-claims = λ claims before r s e f. both (e .result ∙ sym (f .result)) (e .answers ∙ sym (f .answers));
       angle = λ n. one _;
       signed-angle = λ z. one _;

@@ -18,7 +18,8 @@ use Rattle.enclosure.specs.Enclosure.{foundLower, foundUpper, mirrorEnds}
 use Rattle.enclosure.specs.declared.Enclosure.{Enclosure}
 use Rattle.enclosure.proofs.Encloses.{Encloses, code-zero, encloses}
 use Rattle.enclosure.proofs.Narrow.{narrow}
-use Rattle.promises.specs.Figures.{enclosureOf, widthOf}
+use Rattle.promises.specs.Figures.{widthOf}
+use Rattle.promises.specs.SignedUnits.{enclosureOf}
 
 -- what the search's ends say of it, A < 2^28
 abbrev Law : ℕ → ℕ → Type 0
@@ -49,11 +50,11 @@ module _ (mirrored : Bool) (A B a : ℕ) (order : A ≤ B) (law : Law a (B - A))
       ])
 
 -- what code 0 says at depth 5
-module _ (m : ℤ) (a : ℕ) (z : enclosureOf m a .code ≡ 0) where
+module _ (m : ℤ) (a : ℕ) (z : enclosureOf (grid m a) .code ≡ 0) where
   abbrev cell : Cell
   cell = gridCell (natAbs m) a
 
-  pub ends : enclosureOf m a ≡ mirrorEnds (negative m) (foundLower cell depths) (foundUpper cell depths)
+  pub ends : enclosureOf (grid m a) ≡ mirrorEnds (negative m) (foundLower cell depths) (foundUpper cell depths)
   ends = code-zero (grid m a) depths z .ends
 
   pub found : Encloses cell depths
@@ -65,12 +66,12 @@ module _ (m : ℤ) (a : ℕ) (z : enclosureOf m a .code ≡ 0) where
         let h = found .order in
         narrow (natAbs m) a (foundUpper cell depths - foundLower cell depths) (omega arith) found (omega arith) wide
 
-    pub width : pos 2 <ℤ widthOf (enclosureOf m a) → ((widthOf (enclosureOf m a) -ℤ pos 2) *ℤ pos (one - a)) <ℤ pos (64 * a)
+    pub width : pos 2 <ℤ widthOf (enclosureOf (grid m a)) → ((widthOf (enclosureOf (grid m a)) -ℤ pos 2) *ℤ pos (one - a)) <ℤ pos (64 * a)
     width =
         subst (λ (r : Enclosure). pos 2 <ℤ widthOf r → ((widthOf r -ℤ pos 2) *ℤ pos (one - a)) <ℤ pos (64 * a)) (sym ends)
         (width-by (negative m) (foundLower cell depths) (foundUpper cell depths) a (found .order) law)
 
-    pub width-most : (G : ℕ) → 2 ≤ G → ((w : ℕ) → 2 < w → (w - 2) * (one - a) < 64 * a → w ≤ G) → widthOf (enclosureOf m a) ≤ℤ pos G
+    pub width-most : (G : ℕ) → 2 ≤ G → ((w : ℕ) → 2 < w → (w - 2) * (one - a) < 64 * a → w ≤ G) → widthOf (enclosureOf (grid m a)) ≤ℤ pos G
     width-most G some most =
         subst (λ (r : Enclosure). widthOf r ≤ℤ pos G) (sym ends)
         (at-most (negative m) (foundLower cell depths) (foundUpper cell depths) a (found .order) law G some most)

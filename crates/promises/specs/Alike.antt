@@ -11,6 +11,7 @@ use Rattle.enclosure.specs.declared.Enclosure.{Enclosure}
 use Rattle.proposal.specs.Propose.{mirrorProposal, proposalRule}
 use Rattle.judge.specs.Judge.{claimOf, judgeRule}
 use Rattle.judge.specs.Settle.{settleRule}
+use Rattle.distance.specs.Distance.{distanceRule}
 
 -- R60: whatever X, estimate, N and depth
 pub record Same (g h : Given) : Type 0 where
@@ -19,6 +20,7 @@ pub record Same (g h : Given) : Type 0 where
   pub propose : proposalRule g ≡ proposalRule h
   pub judge : (x : Float) (n d : ℕ) → judgeRule (claimOf g x n d) ≡ judgeRule (claimOf h x n d)
   pub settle : (x : Float) (n : ℕ) → settleRule g x n ≡ settleRule h x n
+  pub distance : (x : Float) → distanceRule g x ≡ distanceRule h x
 
 -- R59: an enclosure with its ends negated and exchanged
 abbrev pub exchanged : Enclosure → Enclosure
@@ -31,3 +33,4 @@ pub record Mirrors (g h : Given) : Type 0 where
   pub propose : proposalRule g ≡ mirrorProposal true (proposalRule h)
   pub judge : (x : Float) (n d : ℕ) → judgeRule (claimOf g x n d) ≡ judgeRule (claimOf h (neg x) n d)
   pub settle : (x : Float) (n : ℕ) → settleRule g x n ≡ settleRule h (neg x) n
+  pub distance : (x : Float) → distanceRule g x ≡ distanceRule h (neg x)

@@ -33,6 +33,8 @@ use Rattle.judge.specs.Settle.{settleChecks, unsettled, settleRule}
 use Rattle.judge.specs.declared.Judged.{Judged}
 use Rattle.judge.specs.declared.Settled.{Settled}
 use Rattle.judge.specs.declared.Verdict.the-variants.{Confirmed, Refuted, Undecided}
+use Rattle.distance.specs.Distance.{distanceChecks, noDistance, distanceRule}
+use Rattle.distance.specs.declared.Off.{Off}
 use Rattle.claims.specs.Form.{twenty}
 use Rattle.claims.specs.Record.{recordChecks, answerAt}
 use Rattle.claims.specs.Batch.{batchChecks, batchWith, batchRule, answersAfter}
@@ -60,6 +62,7 @@ pub record Demand1 : Type 0 where
   pub judge : (c : Claim) → Refuses (claimChecks c) (λ (r : Judged). r .code) unjudged (judgeRule c)
   pub settle : (g : Given) (x : Float) (n : ℕ)
       → Refuses (settleChecks g x n) (λ (r : Settled). r .code) unsettled (settleRule g x n)
+  pub distance : (g : Given) (x : Float) → Refuses (distanceChecks g x) (λ (r : Off). r .code) noDistance (distanceRule g x)
   pub batch : (claims answers : List ℕ)
       → Refuses (batchChecks twenty (length claims) (length answers)) (λ (r : Batch). r .code) (λ k. batchWith k 0)
       (batchOf claims answers)
@@ -81,7 +84,7 @@ pub record Demand1 : Type 0 where
   pub in-order : (x a d n i : ℕ) (z : ℤ) (g : Given) (f : Float) (claims answers : List ℕ)
       → T (all (inOrder order)
       (sineChecks x d ∷ endChecks z g d ∷ enclosureChecks g d ∷ checksOf g ∷ problemChecks g d
-      ∷ claimChecks (claimOf g f n d) ∷ settleChecks g f n ∷ batchChecks twenty (length claims) (length answers) ∷ recordChecks twenty claims i ∷ (x-check x ∷ [])
+      ∷ claimChecks (claimOf g f n d) ∷ settleChecks g f n ∷ distanceChecks g f ∷ batchChecks twenty (length claims) (length answers) ∷ recordChecks twenty claims i ∷ (x-check x ∷ [])
       ∷ (signed-x-check z ∷ []) ∷ (a-check a ∷ [])
       ∷ (depth-check d ∷ []) ∷ (estimate-check f ∷ []) ∷ []))
   -- R5: when each check fails

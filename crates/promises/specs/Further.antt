@@ -1,5 +1,5 @@
--- What the rules promise further, beside the demands: of sums, ends, searches, tables, estimates, settled claims, figures, mirrors,
--- doubles and the program.
+-- What the rules promise further, beside the demands: of sums, ends, searches, tables, estimates, settled claims, figures,
+-- distances, mirrors, doubles and the program.
 use mathlib.Core.Path.{_≡_}
 use mathlib.Core.Bool.{Bool, true, false}
 use mathlib.Core.List.{List, []}
@@ -46,6 +46,7 @@ use Rattle.claims.specs.Batch.{upTo}
 use Rattle.claim_file.specs.File.{most-bytes, output}
 use Rattle.promises.specs.Alike.{Same, Mirrors}
 use Rattle.promises.specs.Figures.{Figures}
+use Rattle.promises.specs.Distance.{Distance}
 
 pub record Sums : Type 0 where
   -- R8: 2^28 t_n is X^(2n+1) over (2^56)^n (2n+1)!
@@ -171,6 +172,7 @@ pub record Further : Type 0 where
   pub estimates : Estimates
   pub settles : Settles
   pub figures : Figures
+  pub distance : Distance
   pub mirrored : Mirrored
   pub doubles : Doubles
   pub program : Program

@@ -4,7 +4,9 @@ pub mod Rules
 pub mod Demand2
 pub mod Demand3
 pub mod Alike
+pub mod SignedUnits
 pub mod Figures
+pub mod Distance
 pub mod Further
 pub mod Starred
 pub mod Unique

@@ -14,11 +14,12 @@ use Rattle.series.specs.Entry.{sineRule}
 use Rattle.units.specs.Units.{floorAndCeiling, unitsWith, codedEstimate}
 use Rattle.orbit.specs.Given.{Given, mirroredOf, cellOf, cellWith, codedCell, problemAt, problemWith, codedProblem}
 use Rattle.ends.specs.Entry.{flagged, endOf, lowerRule, upperRule}
-use Rattle.enclosure.specs.Enclosure.{enclosed, enclosureRule}
+use Rattle.enclosure.specs.Enclosure.{foundEnds, enclosed, enclosureRule}
 use Rattle.proposal.specs.Propose.{proposed, mirrorProposal, proposalRule}
 use Rattle.judge.specs.Verdict.{verdictNumber}
 use Rattle.judge.specs.Judge.{Claim, claimOf, caseAt, caseVerdict, verdict, judgeRule}
 use Rattle.judge.specs.Settle.{settledBy, settleRule}
+use Rattle.distance.specs.Distance.{offBy, unitsOf, distanceRule}
 use Rattle.claims.specs.Form.{twenty}
 use Rattle.claims.specs.Record.{claimAt, answerAt}
 use Rattle.claims.specs.AnswerByte.{AnswerByte}
@@ -48,6 +49,8 @@ pub record Rules : Type 0 where
   -- R62
   pub settle : (g : Given) (x : Float) (n : ℕ)
       → Gives (λ r. r .code) (settleRule g x n) (settledBy (caseAt (claimOf g x n depths)))
+  -- R68
+  pub distance : (g : Given) (x : Float) → Gives (λ r. r .code) (distanceRule g x) (offBy (foundEnds (cellOf g) depths) (unitsOf g x))
   -- R51
   pub count : (claims answers : List ℕ)
       → Gives (λ r. r .code) (batchOf claims answers) (batchWith (number done) (length claims / twenty .width))

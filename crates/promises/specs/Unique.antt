@@ -43,6 +43,8 @@ use Rattle.judge.specs.Settle.{settleRule}
 use Rattle.judge.specs.declared.Judged.{Judged}
 use Rattle.judge.specs.declared.Settled.{Settled}
 use Rattle.judge.specs.declared.Verdict.{Verdict}
+use Rattle.distance.specs.Distance.{distanceRule}
+use Rattle.distance.specs.declared.Off.{Off}
 use Rattle.claims.specs.Form.{twenty}
 use Rattle.claims.specs.Batch.{batchRule, answersAfter}
 use Rattle.claims.specs.declared.Batch.{Batch}
@@ -73,6 +75,7 @@ pub record Unique : Type 0 where
   pub propose : (g : Given) → OneResult (λ (r : Proposal). r ≡ proposalRule g)
   pub judge : (claim : Claim) → OneResult (λ (r : Judged). r ≡ judgeRule claim)
   pub settle : (g : Given) (estimate : Float) (n : ℕ) → OneResult (λ (r : Settled). r ≡ settleRule g estimate n)
+  pub distance : (g : Given) (estimate : Float) → OneResult (λ (r : Off). r ≡ distanceRule g estimate)
   pub judge-claims : (claims before : List ℕ) → OneResult (BatchAllows claims before)
   -- the checked constructors, and a double in units
   pub angle : (units : ℕ) → OneResult (λ (r : CodedAngle). r ≡ codedAngle units)

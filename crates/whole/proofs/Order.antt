@@ -2,10 +2,10 @@
 use mathlib.Core.Path.{_≡_, ap}
 use mathlib.Core.Bool.{not}
 use mathlib.Core.Logic.{_↔_}
-use Prim.Native.Nat.{ℕ, _+_, _≤_, _<_}
+use Prim.Native.Nat.{ℕ, _+_, _≤_, _<_, max}
 use native.Mathlib.Omega.{arith}
 use native.Mathlib.Nat.{lt-of-not-le}
-use lib.Dec.{T, leb→le, le→leb, nleb→lt}
+use lib.Dec.{T, T-not, leb→le, le→leb, nleb→lt}
 use lib.IntN.{ℤ, pos, negsuc}
 use lib.Signed.{ltZ, leZ, _≤ℤ_, _<ℤ_, leZ-yes, ltZ-yes, ltZ-no, clashℤ}
 use Rattle.whole.specs.Choose.{greater, lesser}
@@ -31,7 +31,6 @@ le-parts {y} {z} i j =
     let f = j .eq in
     (λ h. let k = own-le y z (h .le) in omega arith, λ k. record { le = le-own y z (omega arith) })
 
--- the same of the test
 -- and y < z, which is that not z ≤ y, says a + d < c + b
 pub lt-parts : {y z : ℤ} {a b c d : ℕ} → Is y a b → Is z c d → y <ℤ z ↔ a + d < c + b
 lt-parts {y} {z} i j = (
@@ -39,6 +38,7 @@ lt-parts {y} {z} i j = (
   λ k. ltZ-yes (not-failed (ltZ y z) (λ n. let h = le-parts j i .0 (ltZ-no n) in omega arith)),
 )
 
+-- the same of the test
 pub test-parts : {y z : ℤ} {a b c d : ℕ} → Is y a b → Is z c d → T (leZ y z) ↔ a + d ≤ c + b
 test-parts i j = (λ t. le-parts i j .0 (leZ-yes t), λ h. le-parts i j .1 h .le)
 
@@ -58,6 +58,13 @@ of-greater P y z p q = by-test P (leZ y z) z y (λ t. q) (λ t. p)
 
 pub of-lesser : (P : ℤ → Type 0) (y z : ℤ) → P y → P z → P (lesser y z)
 of-lesser P y z p q = by-test P (leZ y z) y z (λ t. p) (λ t. q)
+
+-- the greater of a - b and c - d
+pub greater-is : {y z : ℤ} {a b c d : ℕ} → Is y a b → Is z c d → Is (greater y z) (max (a + d) (c + b)) (b + d)
+greater-is {y} {z} {a} {b} {c} {d} i j =
+    by-test (λ (g : ℤ). Is g (max (a + d) (c + b)) (b + d)) (leZ y z) z y
+    (λ t. let h = test-parts i j .0 t in shift j (omega arith))
+    (λ t. let h = lt-of-not-le (λ k. T-not (leZ y z) t (test-parts i j .1 k)) in shift i (omega arith))
 
 not-le : (y z : ℤ) → T (not (leZ y z)) → T (leZ z y)
 not-le (pos a) (pos b) t = le→leb b a (let h = nleb→lt a b t in omega arith)

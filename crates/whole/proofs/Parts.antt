@@ -5,7 +5,7 @@ use mathlib.Core.Bool.{Bool, true, false, not, cond}
 use Prim.Native.Nat.{ℕ, zero, suc, _+_, _-_, _*_}
 use native.Mathlib.Omega.{arith}
 use lib.Dec.{T, ltb, ltb→lt, nltb→le}
-use lib.IntN.{ℤ, pos, negsuc, negℤ, subℕ, _+ℤ_, _-ℤ_, _*ℤ_, *ℤ-comm}
+use lib.IntN.{ℤ, pos, negsuc, negℤ, natAbs, subℕ, _+ℤ_, _-ℤ_, _*ℤ_, *ℤ-comm}
 
 -- the part above zero and the part below
 abbrev pub plus : ℤ → ℕ
@@ -73,3 +73,8 @@ is-mul {z} {a} {b} n i = let e = times n (plus z) b (minus z) a (i .eq) in shift
 
 pub is-mul-right : {z : ℤ} {a b : ℕ} (n : ℕ) → Is z a b → Is (z *ℤ pos n) (n * a) (n * b)
 is-mul-right {z} {a} {b} n i = subst (λ (y : ℤ). Is y (n * a) (n * b)) (*ℤ-comm (pos n) z) (is-mul n i)
+
+-- the size of a - b
+pub is-size : (z : ℤ) {a b : ℕ} → Is z a b → natAbs z ≡ (a - b) + (b - a)
+is-size (pos n) i = let e = i .eq in omega arith
+is-size (negsuc n) i = let e = i .eq in omega arith
