@@ -4,9 +4,10 @@
 """
 import sys
 
+from distance import distance
 from width import width
 
-PICTURES = {"width": width}
+PICTURES = {"width": width, "distance": distance}
 
 
 def main(arguments):

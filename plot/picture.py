@@ -12,6 +12,9 @@ SMALL, NORMAL, LARGE = 12, 14, 19
 INK, PALE_INK, GRID, PAPER = "#222222", "#595959", "#e2e2e2", "#ffffff"
 # The colour-blind tell these two apart, and both are dark enough for text.
 BLUE, ORANGE = "#0072b2", "#c04f00"
+# A logarithmic scale has no place for 0, which gets the foot, below a gap.
+GAP = 28
+ONE = 2 ** 28  # the A of eccentricity one
 
 
 def written(value):
@@ -30,6 +33,10 @@ def element(tag, content="", /, **attributes):
     return f"<{tag}{words}>{content}</{tag}>"
 
 
+def points(places):
+    return " ".join(f"{written(x)},{written(y)}" for x, y in places)
+
+
 @dataclass(frozen=True)
 class Scale:
     """Places values by their logarithms, from the least to the greatest."""
@@ -43,6 +50,17 @@ class Scale:
                 math.log(self.greatest / self.least))
         return (self.place_of_least +
                 part * (self.place_of_greatest - self.place_of_least))
+
+
+@dataclass(frozen=True)
+class Upward:
+    """Places 0 at the foot, and above the gap 1 to a power of ten."""
+    decades: int
+
+    def place(self, value):
+        if not value:
+            return float(BOTTOM)
+        return Scale(1, 10 ** self.decades, BOTTOM - GAP, TOP).place(value)
 
 
 @dataclass
@@ -70,10 +88,20 @@ class Picture:
         self.add("line", x1=x1, y1=y1, x2=x2, y2=y2, stroke=stroke,
                  **attributes)
 
-    def curve(self, places, stroke):
-        points = " ".join(f"{written(x)},{written(y)}" for x, y in places)
-        self.add("polyline", points=points, fill="none", stroke=stroke,
-                 stroke_width=2.5, stroke_linejoin="round")
+    def mark(self, x1, y1, x2, y2):
+        """A dashed line, for what the answers are compared with."""
+        self.line(x1, y1, x2, y2, PALE_INK, stroke_dasharray="6 4")
+
+    def curve(self, places, stroke, width=2.5):
+        self.add("polyline", points=points(places), fill="none",
+                 stroke=stroke, stroke_width=width, stroke_linejoin="round")
+
+    def band(self, below, above, fill):
+        """A pale area between two curves, with what lies under it visible."""
+        self.add("polygon", points=points([*below, *reversed(above)]),
+                 fill=fill, fill_opacity="0.1")
+        self.curve(below, fill, 0.8)
+        self.curve(above, fill, 0.8)
 
     def point(self, x, y, fill, words):
         """A circle; a browser shows the words where it is pointed at."""
@@ -89,6 +117,17 @@ class Picture:
         """A line of the grid from left to right, with its label before it."""
         self.line(LEFT, y, RIGHT, y, GRID)
         self.text(LEFT - 9, y + 4, label, SMALL, text_anchor="end")
+
+    def rows(self, upward):
+        self.row(upward.place(0), "0")
+        for decade in range(upward.decades + 1):
+            self.row(upward.place(10 ** decade), f"{10 ** decade:,}")
+
+    def note(self, x, y, lines, **attributes):
+        """Small lines of text among others, the last one at y."""
+        for above, words in enumerate(reversed(lines)):
+            self.label(x, y - 16 * above, words, SMALL, PALE_INK,
+                       **attributes)
 
     def headings(self, below, x_title, y_title):
         """The title, a line below it, and what the two scales are of."""

@@ -1,24 +1,16 @@
 """The picture of R63: how wide enclosures get, and what is promised."""
 from dataclasses import dataclass
 
-from picture import (BLUE, BOTTOM, LEFT, ORANGE, PALE_INK, RIGHT, SMALL, TOP,
-                     Picture, Scale)
+from picture import (BLUE, BOTTOM, LEFT, ONE, ORANGE, RIGHT, Picture, Scale,
+                     Upward)
 
-ONE = 2 ** 28  # the A of eccentricity one
 TICKS = ("0", "0.5", "0.9", "0.99", "0.999", "0.9999", "0.99999", "0.999999")
-DECADES = 8
-# A logarithmic scale has no place for 0, which gets the foot, below a gap.
-GAP = 28
 ACROSS = Scale(1, 2 ** 20, LEFT, RIGHT)
-UP = Scale(1, 10 ** DECADES, BOTTOM - GAP, TOP)
+UP = Upward(8)
 
 
 def across(e):
     return ACROSS.place(1 / (1 - e))
-
-
-def up(width):
-    return UP.place(width) if width else float(BOTTOM)
 
 
 @dataclass(frozen=True)
@@ -59,36 +51,29 @@ def description(rows, orbits):
 def add_grid(picture):
     for tick in TICKS:
         picture.column(across(float(tick)), tick)
-    picture.row(up(0), "0")
-    for decade in range(DECADES + 1):
-        picture.row(up(10 ** decade), f"{10 ** decade:,}")
-
-
-def add_note(picture, y, lines):
-    """Small lines of text, the last one at y."""
-    for above, words in enumerate(reversed(lines)):
-        picture.label(LEFT + 12, y - 16 * above, words, SMALL, PALE_INK)
+    picture.rows(UP)
 
 
 def add_greatest_n(picture, greatest_n):
-    y = up(greatest_n)
-    picture.line(LEFT, y, RIGHT, y, PALE_INK, stroke_dasharray="6 4")
-    add_note(picture, y - 9, (
+    y = UP.place(greatest_n)
+    picture.mark(LEFT, y, RIGHT, y)
+    picture.note(LEFT + 12, y - 9, (
         "The promised width is also the least tolerance N",
         "promised to confirm every right answer (e above 0).",
         f"The greatest N that may be given is {greatest_n:,}."))
 
 
 def add_series(picture, rows, orbits):
-    picture.curve([(row.x, up(row.promised)) for row in rows], BLUE)
+    picture.curve([(row.x, UP.place(row.promised)) for row in rows], BLUE)
     for row in rows:
-        picture.point(row.x, up(row.met), ORANGE, row.words)
-    picture.label(across(0.99998), up(4.5e6), "promised: never above",
+        picture.point(row.x, UP.place(row.met), ORANGE, row.words)
+    picture.label(across(0.99998), UP.place(4.5e6), "promised: never above",
                   fill=BLUE, text_anchor="end", font_weight="bold")
-    picture.label(across(0.9993), up(260),
+    picture.label(across(0.9993), UP.place(260),
                   f"greatest met over {orbits:,} orbits each", fill=ORANGE,
                   font_weight="bold")
-    add_note(picture, BOTTOM - 10, ("At e = 0 both ends are M: width 0.",))
+    picture.note(LEFT + 12, BOTTOM - 10,
+                 ("At e = 0 both ends are M: width 0.",))
 
 
 def width(lines):
