@@ -3,14 +3,14 @@
 **
 ** A textbook Newton loop in doubles stops as soon as E - e sin E - M is
 ** below 2^-28, one unit. On ordinary orbits that is a good rule. Near the
-** parabolic limit it says little about E: no answer can be confirmed to
-** within 1000 units, and at M = 0, where the root is 0, thousands are
-** certainly wrong by more.
+** parabolic limit it says little about E: no answer is Confirmed to within
+** 1000 units, and at M = 0, where the root is 0, thousands are certainly
+** wrong by more.
 **
-** An answer is certainly wrong by more where it lies outside the enclosure
-** by that much. The judge may still say Undecided there: it tests the two
-** ends of the claim alone, and a residual below one unit is less than what
-** the bounds of sine leave open.
+** The judge says Undecided of these too: it tests the two ends of the claim
+** alone, and a residual below one unit is less than what the bounds of sine
+** leave open. The distance looks at the whole enclosure: it takes no
+** tolerance, and says by how much an answer is off, at least and at most.
 */
 #include <math.h>
 #include <stdio.h>
@@ -19,19 +19,19 @@
 
 enum { ORBITS = 100000, TOLERANCE = 1000, ROWS = 4 };
 
-/* One orbit, the loop's answer, and what the library says of it. */
+/* One orbit, an answer to it, and what the library says of that. */
 struct row {
     int32_t m;
     uint32_t a;
-    double estimate, residual; /* units */
-    struct stripeawn_enclosure root;
+    double estimate, residual; /* radians */
     uint32_t verdict;
-    double off; /* units outside the enclosure, so wrong by at least that */
+    struct stripeawn_off off;
 };
 
 /* What became of many orbits. */
 struct tally {
-    unsigned long solved, verdicts[3], far_off;
+    unsigned long solved, verdicts[3], near, far_off;
+    uint32_t most; /* the greatest of them all */
     struct row worst;
 };
 
@@ -46,56 +46,62 @@ static uint32_t draw(uint32_t limit)
     return (uint32_t)((state >> 32) % limit);
 }
 
-/* Newton from pi, the usual start for a large e; 1 where it converged. */
-static int newton(double m, double e, double *estimate, double *residual)
+/* Sets the residual, E - e sin E - M, of the row's estimate. */
+static void find_residual(struct row *row)
 {
-    double angle = 3.141592653589793;
+    double e = (double)row->a / STRIPEAWN_A_MAX, angle = row->estimate;
+
+    row->residual = angle - e * sin(angle) - row->m * STRIPEAWN_UNIT;
+}
+
+/* Newton from pi, the usual start for a large e; 1 where it converged. */
+static int newton(struct row *row)
+{
+    double e = (double)row->a / STRIPEAWN_A_MAX;
     int step;
 
+    row->estimate = 3.141592653589793;
     for (step = 0; step < 200; step++) {
-        *estimate = angle;
-        *residual = angle - e * sin(angle) - m;
-        if (fabs(*residual) < STRIPEAWN_UNIT)
+        find_residual(row);
+        if (fabs(row->residual) < STRIPEAWN_UNIT)
             return 1;
-        angle -= *residual / (1 - e * cos(angle));
+        row->estimate -= row->residual / (1 - e * cos(row->estimate));
     }
     return 0;
 }
 
-static double outside(double estimate, struct stripeawn_enclosure root)
+/* Asks the library about the row's estimate; 0 where it refuses. */
+static int ask(struct row *row)
 {
-    if (estimate < root.lower)
-        return root.lower - estimate;
-    return estimate > root.upper ? estimate - root.upper : 0;
-}
+    struct stripeawn_verdict v =
+        stripeawn_judge(row->m, row->a, row->estimate, TOLERANCE, 5);
 
-/* Solves the row's orbit and has the answer judged; 0 where that failed. */
-static int solve(struct row *row)
-{
-    struct stripeawn_verdict v;
-    double estimate, residual;
-
-    if (!newton(row->m * STRIPEAWN_UNIT, (double)row->a / STRIPEAWN_A_MAX,
-                &estimate, &residual))
-        return 0;
-    row->root = stripeawn_enclose(row->m, row->a, 5);
-    v = stripeawn_judge(row->m, row->a, estimate, TOLERANCE, 5);
-    if (row->root.code != STRIPEAWN_DONE || v.code != STRIPEAWN_DONE)
-        return 0;
     row->verdict = v.verdict;
-    row->estimate = estimate * STRIPEAWN_RADIAN;
-    row->residual = residual * STRIPEAWN_RADIAN;
-    row->off = outside(row->estimate, row->root);
-    return 1;
+    row->off = stripeawn_distance(row->m, row->a, row->estimate);
+    return v.code == STRIPEAWN_DONE && row->off.code == STRIPEAWN_DONE;
 }
 
-/* What is 'at least' so much is rounded down. */
 static void print_row(const struct row *row)
 {
-    printf("%4ld  %9lu  %10.1f  %8.3f  %7ld to %-7ld  %-9s  %7.0f\n",
-           (long)row->m, (unsigned long)row->a, row->estimate, row->residual,
-           (long)row->root.lower, (long)row->root.upper,
-           stripeawn_name(row->verdict), floor(row->off));
+    struct stripeawn_enclosure root = stripeawn_enclose(row->m, row->a, 5);
+
+    printf("%2ld  %9lu  %9.1f  %8.3f  %7ld to %-7ld  %-12s  %6lu to %lu\n",
+           (long)row->m, (unsigned long)row->a,
+           row->estimate * STRIPEAWN_RADIAN, row->residual * STRIPEAWN_RADIAN,
+           (long)root.lower, (long)root.upper, stripeawn_name(row->verdict),
+           (unsigned long)row->off.least, (unsigned long)row->off.most);
+}
+
+static void count(struct tally *tally, const struct row *row)
+{
+    tally->solved++;
+    tally->verdicts[row->verdict - STRIPEAWN_CONFIRMED]++;
+    tally->near += row->off.most <= TOLERANCE;
+    tally->far_off += row->off.least > TOLERANCE;
+    if (row->off.most > tally->most)
+        tally->most = row->off.most;
+    if (row->off.least > tally->worst.off.least)
+        tally->worst = *row;
 }
 
 /*
@@ -111,22 +117,28 @@ static struct tally run(uint32_t m_limit, uint32_t a_greatest,
 
     for (i = 0; i < ORBITS; i++) {
         struct row row;
-        int wrong;
 
         row.m = (int32_t)draw(m_limit);
         row.a = a_greatest - draw(a_limit);
-        if (!solve(&row))
+        if (!newton(&row) || !ask(&row))
             continue;
-        wrong = row.off > TOLERANCE;
-        tally.solved++;
-        tally.far_off += (unsigned long)wrong;
-        tally.verdicts[row.verdict - STRIPEAWN_CONFIRMED]++;
-        if (row.off > tally.worst.off)
-            tally.worst = row;
-        if (shown[wrong]++ < rows)
+        count(&tally, &row);
+        if (shown[row.off.least > TOLERANCE]++ < rows)
             print_row(&row);
     }
     return tally;
+}
+
+/* The guess 2^-9 at M = 0, e = 1, where the root is 0. */
+static int print_guess(void)
+{
+    struct row row = { .a = STRIPEAWN_A_MAX, .estimate = 1.0 / 512 };
+
+    find_residual(&row);
+    if (!ask(&row))
+        return 0;
+    print_row(&row);
+    return 1;
 }
 
 static void print_tally(const char *orbits, struct tally tally)
@@ -135,28 +147,35 @@ static void print_tally(const char *orbits, struct tally tally)
            "  %lu solved, each to a residual below one unit.\n"
            "  Within %d units of the root? %lu Confirmed, %lu Refuted, "
            "%lu Undecided.\n"
-           "  Certainly more than %d units off: %lu, the worst by at least "
-           "%.0f.\n",
+           "  By their distances %lu certainly are, and %lu certainly are "
+           "not.\n"
+           "  The worst is off by at least %lu, and none by more than %lu.\n",
            orbits, tally.solved, TOLERANCE, tally.verdicts[0],
-           tally.verdicts[1], tally.verdicts[2], TOLERANCE, tally.far_off,
-           floor(tally.worst.off));
+           tally.verdicts[1], tally.verdicts[2], tally.near, tally.far_off,
+           (unsigned long)tally.worst.off.least, (unsigned long)tally.most);
 }
 
 int main(void)
 {
     struct tally near_parabolic, ordinary;
+    int guessed;
 
-    printf("   M          A  Newton's E  residual  E is certainly in   "
-           "verdict    off by at least\n");
+    printf("In units of 2^-28 radian:\n"
+           " M          A          E  residual  the root is in      "
+           "within %d?  so E is off by\n"
+           "a guess, 2^-9 radian:\n", TOLERANCE);
+    guessed = print_guess();
+    printf("found by Newton's method:\n");
     near_parabolic = run(16, STRIPEAWN_A_MAX, 4096, ROWS);
-    printf("the worst:\n");
+    printf("the worst of these:\n");
     print_row(&near_parabolic.worst);
-    printf("(all in units of 2^-28 radian)\n");
     print_tally("Near-parabolic orbits, M below 16 units, A within 4096 of "
                 "2^28", near_parabolic);
     ordinary = run(STRIPEAWN_M_MAX, STRIPEAWN_A_MAX / 10 * 9,
                    STRIPEAWN_A_MAX / 10 * 9, 0);
     print_tally("Ordinary orbits, any M, e below 0.9", ordinary);
-    return near_parabolic.solved == ORBITS && ordinary.solved == ORBITS ? 0
-                                                                        : 1;
+    if (!guessed || near_parabolic.solved < ORBITS ||
+        ordinary.solved < ORBITS)
+        return 1;
+    return 0;
 }
