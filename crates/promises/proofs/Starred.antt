@@ -15,6 +15,7 @@ use Rattle.units.specs.Units.{belowZero, offRange}
 use Rattle.judge.specs.Verdict.{confirmed, refuted, verdictOf}
 use Rattle.judge.specs.Judge.{judgeRule}
 use Rattle.judge.specs.Settle.{settledDepth, settleRule}
+use Rattle.distance.specs.Distance.{distanceRule}
 use Rattle.little.specs.LittleEndian.{littleEndian}
 use Rattle.claims.specs.Record.{answerAt}
 use Rattle.claims.specs.Batch.{batchRule, upTo, answersAfter}
@@ -38,7 +39,7 @@ list =
     and refl and refl and refl and refl and refl and refl and refl and refl and refl and refl and refl and tt
 
 beside : AllHold others
-unfolding others l u evens odds rawLow rawHigh greatestLow leastHigh belowBy aboveBy halve turns foundLower foundUpper neg belowZero offRange ofBits verdictOf confirmed refuted judgeRule firstFrom settledDepth settleRule littleEndian answerAt batchRule upTo answersAfter
+unfolding others l u evens odds rawLow rawHigh greatestLow leastHigh belowBy aboveBy halve turns foundLower foundUpper neg belowZero offRange ofBits verdictOf confirmed refuted judgeRule firstFrom settledDepth settleRule distanceRule littleEndian answerAt batchRule upTo answersAfter
 beside =
     (refl, refl) and (refl, refl) and (refl, refl) and (refl, refl) and (refl, refl) and (refl, refl)
     and (refl, refl) and (refl, refl) and (refl, refl) and (refl, refl) and (refl, refl) and (refl, refl) and (refl, refl) and (refl, refl)
@@ -50,6 +51,7 @@ beside =
     and (refl, refl) and (refl, refl) and (refl, refl) and (refl, refl) and (refl, refl) and (refl, refl) and (refl, refl)
     and (refl, refl) and (refl, refl) and (refl, refl) and (refl, refl) and (refl, refl)
     and (refl, refl) and (refl, refl) and (refl, refl) and (refl, refl) and refl and refl and refl and refl and refl
+    and refl and refl and refl and refl and refl and refl and refl and refl and refl and refl and refl and refl and refl and refl
     and (refl, refl) and (refl, refl) and tt
 
 pub starred-met : Starred

@@ -20,6 +20,7 @@ use Rattle.judge.specs.Settle.{settledAs, settleRule}
 use Rattle.judge.specs.declared.Judged.{Judged}
 use Rattle.judge.specs.declared.Verdict.{Verdict}
 use Rattle.judge.specs.declared.Verdict.the-variants.{Confirmed, Refuted, Undecided}
+use Rattle.distance.specs.Distance.{noDistance, distanceRule}
 use Rattle.claims.specs.Form.{twenty}
 use Rattle.claims.specs.Batch.{batchRule, answersAfter}
 use Rattle.promises.specs.Figures.{greatestWidth, leastN}
@@ -44,6 +45,10 @@ pub data Row : Type 0 where
   judged : Given → ℕ → ℕ → ℕ → Verdict → Row
   -- what is given, the estimate's bits, N: the verdict and the least depth that gives it
   settled : Given → ℕ → ℕ → Verdict → ℕ → Row
+  -- what is given, the estimate's bits: the least and the greatest distance
+  off : Given → ℕ → ℕ → ℕ → Row
+  -- the same: the code of the distance
+  off-code : Given → ℕ → Code → Row
   -- A: the greatest width and the least N
   figures : ℕ → ℕ → ℕ → Row
   -- what is given, the estimate's bits: the judge's code, with N = 0 at depth 5
@@ -78,6 +83,8 @@ Holds (code g X k) = (lowerRule X g 1 .code ≡ number k) × (upperRule X g 1 .c
 Holds (estimate-code x k) = codedEstimate (ofBits binary64 x) .code ≡ number k
 Holds (judged g x N d v) = judge g x N d ≡ verdict v
 Holds (settled g x N v d) = settleRule g (ofBits binary64 x) N ≡ settledAs v d
+Holds (off g x least most) = distanceRule g (ofBits binary64 x) ≡ record { code = number done; least = least; most = most }
+Holds (off-code g x k) = distanceRule g (ofBits binary64 x) ≡ noDistance (number k)
 Holds (figures A width N) = (greatestWidth A ≡ width) × (leastN A ≡ N)
 Holds (judge-code g x k) = judge g x 0 depths .code ≡ number k
 Holds (batch claims answers n after) =
@@ -233,6 +240,24 @@ others =
     -- and an estimate near its root, which M rounded to 1 refutes
     ∷ judged (bits 0x3e20000000000000 0x3ff0000000000000) 0x3f62515fd0117e41 1000 5 Undecided
     ∷ judged (grid (pos 1) one) 0x3f62515fd0117e41 1000 5 Refuted
+    -- how far off 2^-9, 0, minus zero and 2^-1074 are at M = 0, e = 1, and -2^-9 at M = -1
+    ∷ off (grid (pos 0) one) 0x3f60000000000000 524288 524288
+    ∷ off (grid (pos 0) one) 0 0 0
+    ∷ off (grid (pos 0) one) 0x8000000000000000 0 0
+    ∷ off (grid (pos 0) one) 1 0 1
+    ∷ off (grid (minus 1) one) 0xbf60000000000000 231865 428456
+    -- estimates of 259103838, 259103836.5 and 259103841.25 units, whose enclosure stands above, and the mirror of the second
+    ∷ off (grid (pos 257812739) 1570330) 0x3feee338bc000000 0 2
+    ∷ off (grid (pos 257812739) 1570330) 0x3feee338b9000000 1 4
+    ∷ off (grid (pos 257812739) 1570330) 0x3feee338c2800000 1 4
+    ∷ off (grid (minus 257812739) 1570330) 0xbfeee338b9000000 1 4
+    -- M = half a unit, e = 1 and the estimate near its root
+    ∷ off (bits 0x3e20000000000000 0x3ff0000000000000) 0x3f62515fd0117e41 0 600240
+    -- a NaN beside a bad M and a bad A; estimates that oppose M
+    ∷ off-code (grid (pos (H-units + 1)) (one + 1)) 0x7ff8000000000000 bad-m
+    ∷ off-code (grid (pos 0) (one + 1)) 0x7ff8000000000000 bad-a
+    ∷ off-code (grid (pos 0) one) 0x8000000000000001 bad-estimate
+    ∷ off-code (grid (minus 1) one) 1 bad-estimate
     -- the bytes as they stand in the buffer
     ∷ batch (claim1 ++ claim2) (0x00 ∷ 0x00 ∷ []) 2 (0x10 ∷ 0x12 ∷ [])
     ∷ batch (claim3 ++ claim4) (0x00 ∷ 0x00 ∷ []) 2 (0x10 ∷ 0x01 ∷ [])
