@@ -155,9 +155,27 @@ static void test_stated_verdicts(void)
     given_settled_is(HERE, g, units(169340746), 11, 0, 17, 3);
 }
 
+/* Estimates about the same enclosure, in whole units and between them. */
+static void test_stated_distances(void)
+{
+    struct given g = doubles(0.1, 0.9);
+
+    given_distance_is(HERE, g, units(169340769), 0, 0, 11);
+    given_distance_is(HERE, g, units(169340769) + 1e-12, 0, 0, 12);
+    given_distance_is(HERE, g, units(169340792), 0, 12, 34);
+    given_distance_is(HERE, g, units(169340792) - 1e-12, 0, 11, 34);
+    given_distance_is(HERE, g, units(169340746), 0, 12, 34);
+    given_distance_is(HERE, g, units(169340746) + 1e-12, 0, 11, 34);
+    given_distance_is(HERE, g, units(169340758) - 1e-12, 0, 0, 23);
+    given_distance_is(HERE, g, units(169340780) + 1e-12, 0, 0, 23);
+    given_distance_is(HERE, doubles(1e-300, 1.0), 1e-300, 0, 0, 952744);
+    given_distance_is(HERE, doubles(BELOW_H, BELOW_1), BELOW_H, 0, 0, 5);
+}
+
 void test_cells(void)
 {
     test_turns();
     test_stated();
     test_stated_verdicts();
+    test_stated_distances();
 }

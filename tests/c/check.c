@@ -141,6 +141,21 @@ void given_settled_is(struct place at, struct given g, double estimate,
                          depth);
 }
 
+void given_distance_is(struct place at, struct given g, double estimate,
+                       uint32_t code, uint32_t least, uint32_t most)
+{
+    struct stripeawn_off got = distance_of(g, estimate);
+
+    check(at, got.code == code && got.least == least && got.most == most,
+          "distance %s m=%.17g e=%.17g estimate=%a: code %" PRIu32
+          " least %" PRIu32 " most %" PRIu32 ", wanted %" PRIu32 " %" PRIu32
+          " %" PRIu32,
+          way(g), g.m, g.e, estimate, got.code, got.least, got.most, code,
+          least, most);
+    if (g.m > 0)
+        given_distance_is(at, mirror_of(g), -estimate, code, least, most);
+}
+
 /* A depth out of limits, which gets code 3, comes after M and e only. */
 static int agree(struct stripeawn_settled s, struct stripeawn_verdict v,
                  uint32_t depth)
@@ -221,6 +236,15 @@ void settled_is(struct place at, int32_t m, uint32_t a, double estimate,
 
     given_settled_is(at, g, estimate, n, code, verdict, depth);
     given_settled_is(at, as_doubles(g), estimate, n, code, verdict, depth);
+}
+
+void distance_is(struct place at, int32_t m, uint32_t a, double estimate,
+                 uint32_t code, uint32_t least, uint32_t most)
+{
+    struct given g = grid(m, a);
+
+    given_distance_is(at, g, estimate, code, least, most);
+    given_distance_is(at, as_doubles(g), estimate, code, least, most);
 }
 
 double from_bits(uint64_t bits)

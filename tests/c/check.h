@@ -29,6 +29,10 @@
 /* The farthest value of an input that has no sign. */
 #define FAR UINT32_MAX
 
+/* Bits of a double: those of infinity, and the sign. */
+#define INFINITE UINT64_C(0x7FF0000000000000)
+#define SIGN UINT64_C(0x8000000000000000)
+
 struct place {
     const char *file;
     int line;
@@ -65,6 +69,8 @@ void given_verdict_is(struct place at, struct given g, double estimate,
 void given_settled_is(struct place at, struct given g, double estimate,
                       uint32_t n, uint32_t code, uint32_t verdict,
                       uint32_t depth);
+void given_distance_is(struct place at, struct given g, double estimate,
+                       uint32_t code, uint32_t least, uint32_t most);
 
 /*
 ** What is said of a claim without a depth goes with the judge's answer v at
@@ -89,6 +95,8 @@ void verdict_is(struct place at, int32_t m, uint32_t a, double estimate,
                 uint32_t n, uint32_t depth, uint32_t code, uint32_t verdict);
 void settled_is(struct place at, int32_t m, uint32_t a, double estimate,
                 uint32_t n, uint32_t code, uint32_t verdict, uint32_t depth);
+void distance_is(struct place at, int32_t m, uint32_t a, double estimate,
+                 uint32_t code, uint32_t least, uint32_t most);
 
 /* The double with these bits, and the bits of a double. */
 double from_bits(uint64_t bits);
@@ -113,6 +121,8 @@ void test_judge(void);
 void test_undecided(void);
 void test_settle(void);
 void test_settle_limits(void);
+void test_distance(void);
+void test_distance_laws(void);
 void test_figures(void);
 void test_mirror(void);
 void test_estimates(void);

@@ -31,6 +31,7 @@ static void answered()
     stripeawn_proposal p = stripeawn_propose(1, STRIPEAWN_A_MAX);
     stripeawn_verdict v = stripeawn_judge(7, 0, 7 * STRIPEAWN_UNIT, 0, 5);
     stripeawn_settled d = stripeawn_settle(7, 0, 7 * STRIPEAWN_UNIT, 0);
+    stripeawn_off o = stripeawn_distance(7, 0, 9.5 * STRIPEAWN_UNIT);
 
     check("sine", s.code, 0, s.lo == 0 && s.hi == 2);
     check("lower_end", l.code, 0, l.accepted == 1);
@@ -41,6 +42,7 @@ static void answered()
     check("judge", v.code, 0, v.verdict == STRIPEAWN_CONFIRMED);
     check("settle", d.code, 0, d.verdict == STRIPEAWN_CONFIRMED &&
                                    d.depth == 1);
+    check("distance", o.code, 0, o.least == 2 && o.most == 3);
 }
 
 // The entries that take M, answered for M below 0.
@@ -52,6 +54,7 @@ static void mirrored()
     stripeawn_proposal p = stripeawn_propose(-1, STRIPEAWN_A_MAX);
     stripeawn_verdict v = stripeawn_judge(-7, 0, -7 * STRIPEAWN_UNIT, 0, 5);
     stripeawn_settled d = stripeawn_settle(-7, 0, -9 * STRIPEAWN_UNIT, 1);
+    stripeawn_off o = stripeawn_distance(-7, 0, -9.5 * STRIPEAWN_UNIT);
 
     check("lower_end, M < 0", l.code, 0, l.accepted == 0);
     check("upper_end, M < 0", u.code, 0, u.accepted == 1);
@@ -63,6 +66,7 @@ static void mirrored()
     check("judge, M < 0", v.code, 0, v.verdict == STRIPEAWN_CONFIRMED);
     check("settle, M < 0", d.code, 0, d.verdict == STRIPEAWN_REFUTED &&
                                           d.depth == 1);
+    check("distance, M < 0", o.code, 0, o.least == 2 && o.most == 3);
 }
 
 // The same entries, refused.
@@ -76,6 +80,7 @@ static void refused()
     stripeawn_proposal p = stripeawn_propose(m, STRIPEAWN_A_MAX + 1);
     stripeawn_verdict v = stripeawn_judge(m, 0, -1.0, 0, 5);
     stripeawn_settled d = stripeawn_settle(m, 0, -1.0, 0);
+    stripeawn_off o = stripeawn_distance(m, 0, -1.0);
     stripeawn_end opposing = stripeawn_lower_end(1, -m, 0, 1);
     stripeawn_enclosure least = stripeawn_enclose(INT32_MIN, 0, 1);
 
@@ -87,6 +92,7 @@ static void refused()
                                         p.e_cos == 0 && p.j == 0);
     check("bad judge", v.code, 4, v.verdict == 0);
     check("bad settle", d.code, 4, d.verdict == 0 && d.depth == 0);
+    check("bad distance", o.code, 4, o.least == 0 && o.most == 0);
     check("opposing x", opposing.code, 10, opposing.accepted == 0);
     check("least M", least.code, 1, least.lower == 0 && least.upper == 0);
 }
@@ -103,6 +109,8 @@ static void doubles()
         stripeawn_judge_double(0.1, 0.9, 169340769 * STRIPEAWN_UNIT, 11, 5);
     stripeawn_settled d =
         stripeawn_settle_double(0.1, 0.9, 169340769 * STRIPEAWN_UNIT, 11);
+    stripeawn_off o =
+        stripeawn_distance_double(0.1, 0.9, 169340792 * STRIPEAWN_UNIT);
 
     check("lower_end_double", l.code, 0, l.accepted == 1);
     check("upper_end_double", u.code, 0, u.accepted == 1);
@@ -116,6 +124,7 @@ static void doubles()
     check("judge_double", v.code, 0, v.verdict == STRIPEAWN_CONFIRMED);
     check("settle_double", d.code, 0, d.verdict == STRIPEAWN_CONFIRMED &&
                                           d.depth == 3);
+    check("distance_double", o.code, 0, o.least == 12 && o.most == 34);
 }
 
 static void refused_doubles()
@@ -130,6 +139,7 @@ static void refused_doubles()
     stripeawn_proposal p = stripeawn_propose_double(top, nan);
     stripeawn_verdict v = stripeawn_judge_double(top, 1.0, nan, 0, 5);
     stripeawn_settled d = stripeawn_settle_double(top, nan, nan, 0);
+    stripeawn_off o = stripeawn_distance_double(top, nan, nan);
 
     check("bad lower_end_double", l.code, 10, l.accepted == 0);
     check("bad upper_end_double", u.code, 1, u.accepted == 0);
@@ -139,6 +149,7 @@ static void refused_doubles()
                                                p.e_cos == 0 && p.j == 0);
     check("bad judge_double", v.code, 4, v.verdict == 0);
     check("bad settle_double", d.code, 2, d.verdict == 0 && d.depth == 0);
+    check("bad distance_double", o.code, 2, o.least == 0 && o.most == 0);
 }
 
 // A batch over whole vectors; the data of an empty one may be NULL.

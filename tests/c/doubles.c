@@ -10,9 +10,6 @@
 
 #include "check.h"
 
-#define INFINITE UINT64_C(0x7FF0000000000000)
-#define SIGN UINT64_C(0x8000000000000000)
-
 /* Every entry answers with this code and zeros beside it. */
 static void refused(struct place at, double m, double e, uint32_t code)
 {
@@ -25,6 +22,7 @@ static void refused(struct place at, double m, double e, uint32_t code)
     given_proposal_is(at, g, none);
     given_verdict_is(at, g, 0.0, 65535, 5, code, 0);
     given_settled_is(at, g, 0.0, 65535, code, 0, 0);
+    given_distance_is(at, g, 0.0, code, 0, 0);
 }
 
 /* Every entry answers with code 0. */
@@ -37,7 +35,8 @@ static void taken(struct place at, double m, double e)
               end_of(UPPER, 0, g, 5).code == 0 &&
               enclosure_of(g, 5).code == 0 && proposal_of(g).code == 0 &&
               verdict_of(g, 0.0, 0, 5).code == 0 &&
-              settled_of(g, 0.0, 0).code == 0,
+              settled_of(g, 0.0, 0).code == 0 &&
+              distance_of(g, 0.0).code == 0,
           "m=%a e=%a is refused", m, e);
     if (m > 0)
         taken(at, -m, e);
@@ -91,14 +90,14 @@ static void test_nans(void)
         refused(HERE, 1.0, nan, 2);
         refused(HERE, -1.0, nan, 2);
         given_verdict_is(HERE, doubles(0.1, 0.9), nan, 0, 5, 4, 0);
+        given_distance_is(HERE, doubles(0.1, 0.9), nan, 4, 0, 0);
     }
 }
 
-/* Depths, tolerances, angles and estimates at their limits and past them. */
+/* Depths, angles and tolerances at their limits and past them. */
 static void test_other_limits(void)
 {
     struct given g = doubles(0.1, 0.9);
-    uint64_t top = to_bits(units(T));
 
     given_enclosure_is(HERE, g, 0, 3, 0, 0);
     given_enclosure_is(HERE, g, 6, 3, 0, 0);
@@ -114,11 +113,25 @@ static void test_other_limits(void)
     given_verdict_is(HERE, g, 0.0, 65535, 5, 0, 17);
     given_verdict_is(HERE, g, 0.0, 65536, 5, 5, 0);
     given_verdict_is(HERE, g, 0.0, 0, 6, 3, 0);
+}
+
+/* The same of estimates; the enclosure is 169340758 to 169340780. */
+static void test_limits_of_estimates(void)
+{
+    struct given g = doubles(0.1, 0.9);
+    double past = from_bits(to_bits(units(T)) + 1);
+
     given_verdict_is(HERE, g, units(T), 0, 5, 0, 17);
-    given_verdict_is(HERE, g, from_bits(top + 1), 0, 5, 4, 0);
+    given_verdict_is(HERE, g, past, 0, 5, 4, 0);
     given_verdict_is(HERE, g, -ABOVE_0, 0, 5, 4, 0);
     given_verdict_is(HERE, g, -0.0, 0, 5, 0, 17);
     given_verdict_is(HERE, g, INFINITY, 0, 5, 4, 0);
+    given_distance_is(HERE, g, units(T), 0, 673974140, 673974162);
+    given_distance_is(HERE, g, past, 4, 0, 0);
+    given_distance_is(HERE, g, -ABOVE_0, 4, 0, 0);
+    given_distance_is(HERE, g, -0.0, 0, 169340758, 169340780);
+    given_distance_is(HERE, g, ABOVE_0, 0, 169340757, 169340780);
+    given_distance_is(HERE, g, INFINITY, 4, 0, 0);
 }
 
 /* Less than a unit from 0, M still has a side; with e = 0 the root is M. */
@@ -141,6 +154,10 @@ static void test_sides(void)
         given_verdict_is(HERE, g, small[i], 1, 1, 0, 16);
         given_verdict_is(HERE, g, small[i], 0, 1, 0, 18);
         given_verdict_is(HERE, g, -0.0, 1, 1, 0, 16);
+        given_distance_is(HERE, g, -small[i], 4, 0, 0);
+        given_distance_is(HERE, g, small[i], 0, 0, 1);
+        given_distance_is(HERE, g, -0.0, 0, 0, 1);
+        given_distance_is(HERE, g, units(2), 0, 1, 2);
     }
 }
 
@@ -160,6 +177,9 @@ static void test_zeros(void)
             given_enclosure_is(HERE, g, 1, 0, 0, 0);
             given_verdict_is(HERE, g, -ABOVE_0, 0, 1, 4, 0);
             given_verdict_is(HERE, g, zeros[k], 0, 1, 0, 16);
+            given_distance_is(HERE, g, -ABOVE_0, 4, 0, 0);
+            given_distance_is(HERE, g, zeros[k], 0, 0, 0);
+            given_distance_is(HERE, g, ABOVE_0, 0, 0, 1);
         }
 }
 
@@ -197,6 +217,7 @@ void test_doubles(void)
     test_limits();
     test_nans();
     test_other_limits();
+    test_limits_of_estimates();
     test_sides();
     test_zeros();
     test_rounding();

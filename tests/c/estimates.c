@@ -1,23 +1,25 @@
 /*
 ** estimates.c: every kind of double as an estimate, on both sides of 0.
 **
-** With A = 0 the root is M, so that a few verdicts tell the whole numbers
-** just below and just above an estimate, its f and c, one by one. Each
-** estimate has its mirror judged too, against M below 0.
+** With A = 0 the root is M, so that a few verdicts and distances tell the
+** whole numbers just below and just above an estimate, its f and c, one by
+** one. Each estimate has its mirror judged too, against M below 0.
 */
 #include "check.h"
-
-#define INFINITE UINT64_C(0x7FF0000000000000)
-#define SIGN UINT64_C(0x8000000000000000)
 
 /* Whole estimate: within 0 units of f and of nothing else. */
 static void whole(struct place at, double estimate, int32_t f)
 {
     verdict_is(at, f, 0, estimate, 0, 1, 0, 16);
-    if (f > 0)
+    distance_is(at, f, 0, estimate, 0, 0, 0);
+    if (f > 0) {
         verdict_is(at, f - 1, 0, estimate, 0, 1, 0, 17);
-    if (f < H)
+        distance_is(at, f - 1, 0, estimate, 0, 1, 1);
+    }
+    if (f < H) {
         verdict_is(at, f + 1, 0, estimate, 0, 1, 0, 17);
+        distance_is(at, f + 1, 0, estimate, 0, 1, 1);
+    }
 }
 
 /* Between f and f + 1: within 0 units of neither, within 1 of both alone. */
@@ -27,10 +29,16 @@ static void between(struct place at, double estimate, int32_t f)
     verdict_is(at, f + 1, 0, estimate, 0, 1, 0, 17);
     verdict_is(at, f, 0, estimate, 1, 1, 0, 16);
     verdict_is(at, f + 1, 0, estimate, 1, 1, 0, 16);
-    if (f > 0)
+    distance_is(at, f, 0, estimate, 0, 0, 1);
+    distance_is(at, f + 1, 0, estimate, 0, 0, 1);
+    if (f > 0) {
         verdict_is(at, f - 1, 0, estimate, 1, 1, 0, 17);
-    if (f + 2 <= H)
+        distance_is(at, f - 1, 0, estimate, 0, 1, 2);
+    }
+    if (f + 2 <= H) {
         verdict_is(at, f + 2, 0, estimate, 1, 1, 0, 17);
+        distance_is(at, f + 2, 0, estimate, 0, 1, 2);
+    }
 }
 
 /* Refused beside M = 0 and M above it, and its mirror beside M below. */
@@ -39,6 +47,9 @@ static void refused(struct place at, double estimate)
     verdict_is(at, 0, 0, estimate, 0, 1, 4, 0);
     verdict_is(at, 1, 0, estimate, 0, 1, 4, 0);
     verdict_is(at, H, ONE, estimate, 65535, 5, 4, 0);
+    distance_is(at, 0, 0, estimate, 4, 0, 0);
+    distance_is(at, 1, 0, estimate, 4, 0, 0);
+    distance_is(at, H, ONE, estimate, 4, 0, 0);
 }
 
 /* Either zero is 0 for every M. */
@@ -55,6 +66,9 @@ static void test_zeros(void)
 
         verdict_is(HERE, m, 0, 0.0, 1, 1, 0, verdict);
         verdict_is(HERE, m, 0, from_bits(SIGN), 1, 1, 0, verdict);
+        distance_is(HERE, m, 0, 0.0, 0, (uint32_t)m, (uint32_t)m);
+        distance_is(HERE, m, 0, from_bits(SIGN), 0, (uint32_t)m,
+                    (uint32_t)m);
     }
 }
 
@@ -101,6 +115,9 @@ static void test_greatest(void)
     verdict_is(HERE, H, 0, from_bits(top - 1), 63, 1, 0, 17);
     verdict_is(HERE, H, 0, units(T - 1), 63, 1, 0, 16);
     verdict_is(HERE, H, 0, units(T - 1), 62, 1, 0, 17);
+    distance_is(HERE, H, 0, units(T), 0, 64, 64);
+    distance_is(HERE, H, 0, from_bits(top - 1), 0, 63, 64);
+    distance_is(HERE, H, 0, units(T - 1), 0, 63, 63);
     refused(HERE, from_bits(top + 1));
     refused(HERE, units(T + 1));
     refused(HERE, 3.2);

@@ -76,6 +76,13 @@ struct stripeawn_settled settled_of(struct given g, double estimate,
                : stripeawn_settle((int32_t)g.m, (uint32_t)g.e, estimate, n);
 }
 
+struct stripeawn_off distance_of(struct given g, double estimate)
+{
+    return g.is_double
+               ? stripeawn_distance_double(g.m, g.e, estimate)
+               : stripeawn_distance((int32_t)g.m, (uint32_t)g.e, estimate);
+}
+
 /* The high half of the state is the better one, and is mixed into the low. */
 uint64_t random_bits(uint64_t *state)
 {

@@ -34,6 +34,7 @@ struct stripeawn_verdict verdict_of(struct given g, double estimate,
                                     uint32_t n, uint32_t depth);
 struct stripeawn_settled settled_of(struct given g, double estimate,
                                     uint32_t n);
+struct stripeawn_off distance_of(struct given g, double estimate);
 
 /* The next of a row of pseudo-random numbers. */
 uint64_t random_bits(uint64_t *state);

@@ -159,6 +159,9 @@ static void test_layout(void)
     named(HERE, sizeof(struct stripeawn_settled), 12);
     named(HERE, offsetof(struct stripeawn_settled, verdict), 4);
     named(HERE, offsetof(struct stripeawn_settled, depth), 8);
+    named(HERE, sizeof(struct stripeawn_off), 12);
+    named(HERE, offsetof(struct stripeawn_off, least), 4);
+    named(HERE, offsetof(struct stripeawn_off, most), 8);
     named(HERE, sizeof(struct stripeawn_batch), 16);
     named(HERE, offsetof(struct stripeawn_batch, count), 8);
 }
@@ -178,6 +181,8 @@ static void test_double_entries(void)
     struct stripeawn_settled (*const settle)(double, double, double,
                                              uint32_t) =
         stripeawn_settle_double;
+    struct stripeawn_off (*const distance)(double, double, double) =
+        stripeawn_distance_double;
 
     named(HERE, ends[LOWER](1, units(2), 0.0, 5).accepted, 1);
     named(HERE, ends[UPPER](1, units(2), 0.0, 5).accepted, 0);
@@ -185,6 +190,7 @@ static void test_double_entries(void)
     named(HERE, propose(1.0, 2.0).code, 2);
     named(HERE, judge(units(2), 0.0, units(3), 1, 5).verdict, 16);
     named(HERE, settle(units(2), 0.0, units(3), 1).depth, 1);
+    named(HERE, distance(units(2), 0.0, units(3)).most, 1);
 }
 
 /* The same; a width may need more than 32 bits. */

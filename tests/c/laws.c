@@ -1,14 +1,24 @@
 /*
 ** laws.c: what holds of every M and e as doubles, on many pseudo-random ones:
 ** on the grid they get the grid's answers; an end is accepted where both
-** corners of the cell accept it; a verdict stays at greater depths, and is
-** the one that is given without a depth.
+** corners of the cell accept it; a verdict stays at greater depths, is the
+** one that is given without a depth, and is contradicted by no distance.
 */
 #include <math.h>
 
 #include "check.h"
+#include "off.h"
 
-/* All six entries, near the ends of the enclosure: grid and doubles. */
+/* The distance of one estimate: grid and doubles. */
+static void same_distance(struct given g, double estimate)
+{
+    struct stripeawn_off o = distance_of(g, estimate);
+
+    given_distance_is(HERE, as_doubles(g), estimate, o.code, o.least,
+                      o.most);
+}
+
+/* All other entries, near the ends of the enclosure: grid and doubles. */
 static void same_on_grid(struct given g, uint32_t depth, uint32_t n)
 {
     struct stripeawn_enclosure e = enclosure_of(g, depth);
@@ -44,6 +54,8 @@ static void test_on_grid(void)
         uint32_t n = random_bits(&random) >> (48 + i % 16);
 
         same_on_grid(g, i % 5 + 1, n);
+        if (i % 5 == 0) /* once for all depths, as it takes none */
+            same_distance(g, units(proposal_of(g).angle) + units(n) / 3);
     }
 }
 
@@ -127,6 +139,24 @@ static void kept(struct given g, double estimate, uint32_t n)
     }
 }
 
+/* A distance with a verdict at every depth, or the same code 4. */
+static void distance_agrees(struct given g, double estimate, uint32_t n)
+{
+    struct stripeawn_off o = distance_of(g, estimate);
+    uint32_t depth;
+
+    for (depth = 1; depth <= 5; depth++) {
+        struct stripeawn_verdict v = verdict_of(g, estimate, n, depth);
+
+        check(HERE, o.code == v.code && !contradicts(o, v.verdict, n),
+              "m=%.17g e=%.17g estimate=%a n=%lu: code %lu, %lu to %lu off, "
+              "at depth %lu code %lu, verdict %lu", g.m, g.e, estimate,
+              (unsigned long)n, (unsigned long)o.code, (unsigned long)o.least,
+              (unsigned long)o.most, (unsigned long)depth,
+              (unsigned long)v.code, (unsigned long)v.verdict);
+    }
+}
+
 /* Estimates from next to the proposal's angle to far away from it. */
 static void test_kept(void)
 {
@@ -138,8 +168,11 @@ static void test_kept(void)
         int32_t off = (int32_t)(random_bits(&random) >> (35 + i % 29));
         uint32_t n = random_bits(&random) >> (48 + i % 16);
         int32_t angle = proposal_of(g).angle;
+        double estimate = units(i % 2 ? angle - off : angle + off);
 
-        kept(g, units(i % 2 ? angle - off : angle + off), n);
+        kept(g, estimate, n);
+        if (i % 3 == 0)
+            distance_agrees(g, estimate, n);
     }
     for (depth = 1; depth <= 5; depth++)
         check(HERE, settled[depth] > 100, "%lu claims settled at depth %lu",

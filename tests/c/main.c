@@ -16,6 +16,8 @@ int main(void)
     test_undecided();
     test_settle();
     test_settle_limits();
+    test_distance();
+    test_distance_laws();
     test_figures();
     test_mirror();
     test_estimates();

@@ -5,8 +5,6 @@
 */
 #include "check.h"
 
-#define SIGN UINT64_C(0x8000000000000000)
-
 /* A = 2^28, X = -2^28: the M at which each test turns. */
 static void test_stated_ends(void)
 {
@@ -115,6 +113,26 @@ static void test_stated_settled(void)
     settled_is(HERE, -7, 0, units(7), 65535, 4, 0, 0);
 }
 
+/* A distance has no sign. The enclosure is -268435461 to -268435450. */
+static void test_stated_distances(void)
+{
+    int32_t m = -42554808;
+
+    distance_is(HERE, m, ONE, units(-268435455), 0, 0, 6);
+    distance_is(HERE, m, ONE, units(-268435465), 0, 4, 15);
+    distance_is(HERE, m, ONE, units(-268435465) + units(1) / 4, 0, 3, 15);
+    distance_is(HERE, m, ONE, units(-268435446), 0, 4, 15);
+    distance_is(HERE, m, ONE, units(-268435446) - units(1) / 4, 0, 3, 15);
+    distance_is(HERE, -1, ONE, units(-850000), 0, 0, 102744);
+    distance_is(HERE, -1, ONE, units(-1), 0, 756152, 952743);
+    distance_is(HERE, -H, ONE, units(-T), 0, 60, 67);
+    distance_is(HERE, -7, 0, units(-9), 0, 2, 2);
+    distance_is(HERE, -7, 0, units(-9) - units(1) / 2, 0, 2, 3);
+    distance_is(HERE, -7, 0, units(7), 4, 0, 0);
+    given_distance_is(HERE, doubles(-0.1, 0.9), units(-169340792), 0, 12,
+                      34);
+}
+
 /* The least and the greatest estimates beside M below 0 and M = 0. */
 static void test_limits_of_estimates(void)
 {
@@ -190,12 +208,25 @@ static void mirrored_problem(struct given g, uint32_t depth)
     }
 }
 
-/* The proposal, and the problem at every depth, good or bad. */
+static void mirrored_distance(double estimate, struct given g)
+{
+    struct stripeawn_off o = distance_of(g, estimate);
+
+    given_distance_is(HERE, mirror_of(g), -estimate, o.code, o.least, o.most);
+}
+
+/* Proposal and distances, and the problem at every depth, good or bad. */
 static void mirrored_given(struct given g)
 {
     struct stripeawn_proposal p = proposal_of(g);
+    double near = units(p.angle);
     uint32_t depth;
 
+    mirrored_distance(near, g);
+    mirrored_distance(near + units(1) / 4, g);
+    mirrored_distance(near / 2, g);
+    mirrored_distance(0.0, g);
+    mirrored_distance(-near, g);
     p.angle = -p.angle;
     p.e_sin = -p.e_sin;
     given_proposal_is(HERE, mirror_of(g), p);
@@ -236,6 +267,7 @@ void test_mirror(void)
     test_stated_proposals();
     test_stated_verdicts();
     test_stated_settled();
+    test_stated_distances();
     test_limits_of_estimates();
     test_mirrored();
 }

@@ -48,12 +48,12 @@ static const uint64_t estimates[] = {
     UINT64_C(0x400921FB74000000), /* T units, and the next double */
     UINT64_C(0x400921FB74000001),
     UINT64_C(0x4010000000000000), /* 4, which is above T units */
-    UINT64_C(0x7FF0000000000000), /* infinity */
+    INFINITE,
     UINT64_C(0x7FF8000000000000), /* NaN */
     UINT64_C(0x7FF0000000000001), /* signalling NaN */
 };
 
-static const uint64_t signs[] = { 0, UINT64_C(0x8000000000000000) };
+static const uint64_t signs[] = { 0, SIGN };
 
 /* No comparison holds of a NaN, and the two zeros are equal. */
 static uint32_t estimate_code(double estimate, double m)
@@ -201,6 +201,23 @@ static void claim_order(struct posed p, double estimate, struct value n)
         judge_order(p, depths[d], estimate, n);
 }
 
+/* Neither depth nor tolerance, and none of their codes, nor code 6. */
+static void distance_order(struct posed p, double estimate)
+{
+    uint32_t codes[] = { p.code, estimate_code(estimate, p.given.m) };
+    uint32_t code = first(codes, COUNT(codes));
+    struct stripeawn_off got = distance_of(p.given, estimate);
+
+    check(HERE, got.code == code, "distance gives %lu, wanted %lu",
+          (unsigned long)got.code, (unsigned long)code);
+    check(HERE,
+          code == 0 ? got.least <= got.most && got.most <= T
+                    : got.least == 0 && got.most == 0,
+          "distance gives %lu and %lu with code %lu",
+          (unsigned long)got.least, (unsigned long)got.most,
+          (unsigned long)code);
+}
+
 static void posed_order(struct posed p)
 {
     size_t d, x, e, s, n;
@@ -211,8 +228,13 @@ static void posed_order(struct posed p)
         EACH(x, angles)
             ends_order(p, depths[d], angles[x]);
     }
-    EACH(e, estimates) EACH(s, signs) EACH(n, tolerances)
-        claim_order(p, from_bits(estimates[e] | signs[s]), tolerances[n]);
+    EACH(e, estimates) EACH(s, signs) {
+        double estimate = from_bits(estimates[e] | signs[s]);
+
+        distance_order(p, estimate);
+        EACH(n, tolerances)
+            claim_order(p, estimate, tolerances[n]);
+    }
 }
 
 void test_way(struct way way)

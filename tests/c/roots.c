@@ -82,6 +82,19 @@ static void proposes_root(struct given g, double root)
           (long)p.angle, (unsigned long)p.j);
 }
 
+/* An estimate is no nearer to the root than least, nor farther than most. */
+static void away_from_root(struct given g, double root, double estimate)
+{
+    struct stripeawn_off o = distance_of(g, estimate);
+    double away = fabs(estimate - root) * STRIPEAWN_RADIAN;
+
+    check(HERE,
+          o.code == 4 || (o.code == 0 && o.least <= away && away <= o.most),
+          "m=%a e=%a: root %a, estimate %a, code %lu, least %lu, most %lu",
+          g.m, g.e, root, estimate, (unsigned long)o.code,
+          (unsigned long)o.least, (unsigned long)o.most);
+}
+
 static void about_root(struct given g, double root)
 {
     static const uint32_t tolerances[] = { 0, 1, 10, 1000, 30000, 65535 };
@@ -89,6 +102,13 @@ static void about_root(struct given g, double root)
     size_t i;
 
     proposes_root(g, root);
+    away_from_root(g, root, root);
+    away_from_root(g, root, 0.0);
+    away_from_root(g, root, g.m < 0 ? -units(T) : units(T));
+    for (i = 0; i < COUNT(tolerances); i++) {
+        away_from_root(g, root, root + STRIPEAWN_UNIT * tolerances[i]);
+        away_from_root(g, root, root - STRIPEAWN_UNIT * tolerances[i]);
+    }
     for (depth = 1; depth <= 5; depth++) {
         encloses_root(g, root, depth);
         for (i = 0; i < COUNT(tolerances); i++)
@@ -117,6 +137,7 @@ static void test_confirmed(void)
     given_enclosure_is(HERE, g, 5, 0, 2709311, 2748072);
     given_verdict_is(HERE, g, s->root, 22128, 5, 0, 18);
     given_verdict_is(HERE, g, s->root, 22129, 5, 0, 16);
+    given_distance_is(HERE, g, s->root, 0, 0, 22129);
 }
 
 /* The grid point next to M = 1e-9 is 0, whose root is 0 and 487779 off. */

@@ -10,9 +10,6 @@
 
 #include "check.h"
 
-#define INFINITE UINT64_C(0x7FF0000000000000)
-#define SIGN UINT64_C(0x8000000000000000)
-
 /* A code and zeros beside it. */
 static void refused(struct place at, struct given g, double estimate,
                     uint32_t n, uint32_t code)

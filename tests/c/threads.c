@@ -14,7 +14,7 @@ enum { THREADS = 4, ORBITS = 200, STACK = 65536 };
 
 /* Sums of everything that one pass over the entries returns. */
 struct sums {
-    uint64_t ends, enclosures, proposals, verdicts, settled;
+    uint64_t ends, enclosures, proposals, verdicts, settled, distances;
 };
 
 struct totals {
@@ -28,6 +28,7 @@ static void add_given(struct sums *t, struct given g, uint32_t depth)
     struct stripeawn_enclosure e = enclosure_of(g, depth);
     struct stripeawn_proposal p = proposal_of(g);
     struct stripeawn_settled s = settled_of(g, units(p.angle), depth * 9);
+    struct stripeawn_off o = distance_of(g, units(p.angle));
 
     t->ends += end_of(LOWER, p.angle, g, depth).accepted * 3 +
                end_of(UPPER, p.angle, g, depth).accepted;
@@ -36,6 +37,7 @@ static void add_given(struct sums *t, struct given g, uint32_t depth)
                     (uint64_t)p.e_cos * 5 + p.j;
     t->verdicts += verdict_of(g, units(p.angle), depth * 9, depth).verdict;
     t->settled += s.verdict * 6 + s.depth;
+    t->distances += (uint64_t)o.least * 3 + o.most;
 }
 
 /* All entries; M and e as doubles are a third of a unit off the grid. */
@@ -74,7 +76,7 @@ static int same_sums(struct sums s, struct sums t)
 {
     return s.ends == t.ends && s.enclosures == t.enclosures &&
            s.proposals == t.proposals && s.verdicts == t.verdicts &&
-           s.settled == t.settled;
+           s.settled == t.settled && s.distances == t.distances;
 }
 
 static int same(const struct totals *s, const struct totals *t)
@@ -107,6 +109,10 @@ void test_threads(void)
           alone.on_grid.settled >= (16 * 6 + 1) * ORBITS &&
               alone.of_doubles.settled >= (16 * 6 + 1) * ORBITS,
           "not every orbit is settled");
+    check(HERE,
+          alone.on_grid.distances >= ORBITS &&
+              alone.of_doubles.distances >= ORBITS,
+          "not every orbit has a distance");
     pthread_attr_init(&small);
     check(HERE, pthread_attr_setstacksize(&small, stack_size()) == 0,
           "no stack of %lu bytes", (unsigned long)stack_size());
