@@ -515,15 +515,16 @@ struct stripeawn_settled stripeawn_settle(int32_t m, uint32_t a,
 **        most  = max(c - lower, upper - f)
 **    for M of either sign. Both mean the exact values of M, e and the
 **    estimate, on the grid or off it, and least is never above most.
-** 2) Where least is above 0 the whole unit that the estimate lies in is
-**    outside the enclosure, and the estimate is certainly no root, however
-**    small its residual is. Where least is 0 nothing speaks against it; how
-**    good it is, most says.
+** 2) Where least is above 0 the estimate lies beyond an end, and is certainly
+**    no root, however small its residual is; one that is not a whole number
+**    of units is then off by more than least. Where least is 0 nothing speaks
+**    against it; how good it is, most says.
 ** 3) No verdict is contradicted: where stripeawn_judge_double, or on the grid
 **    stripeawn_judge, says Confirmed, least is not above its n, and where it
-**    says Refuted, most is above its n, at any depth. After Undecided one of
-**    the two often settles the matter: M = 0, e = 1 and the estimate 2^-9,
-**    whose residual is a third of a unit, are 524288 and 524288 units off.
+**    says Refuted, most is above its n, at any depth. After Undecided the
+**    two may still settle the matter, as near M = 0 and e = 1 they do: at
+**    M = 0, e = 1 the estimate 2^-9, whose residual is a third of a unit, is
+**    off by 524288 units, at least and at most.
 ** 4) It takes the time of an enclosure at depth 5, many times that of the
 **    judge: judge first, and ask for the distance where that is Undecided or
 **    the figure itself is wanted.

@@ -1,7 +1,7 @@
 -- What R67's two distances say, of ends a ≤ b and of f ≤ c: how they compare, when the least is above 0, and how far apart two
 -- fractions are of which one lies from a to b and the other from f to c. Assumes nothing.
 use mathlib.Core.Logic.{_⊎_, inl, inr}
-use Prim.Native.Nat.{ℕ, _+_, _-_, _*_, _≤_, _<_, max}
+use Prim.Native.Nat.{ℕ, _+_, _-_, _*_, _≤_, _<_}
 use native.Mathlib.Omega.{arith}
 use native.Mathlib.Nat.{lt-of-not-le, mul-le-mul-right}
 use native.Mathlib.Decide.{decLe}

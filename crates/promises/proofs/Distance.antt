@@ -1,13 +1,13 @@
 -- What a distance says, R68 and R69, for either sign of M, and that it contradicts no verdict, R70. Assumes nothing.
-use mathlib.Core.Path.{_≡_, refl, sym, ap, subst, _∙_}
+use mathlib.Core.Path.{_≡_, refl, ap, subst, _∙_}
 use mathlib.Core.Bool.{Bool, true, false}
-use mathlib.Core.List.{List, [], _∷_}
+use mathlib.Core.List.{[], _∷_}
 use mathlib.Core.Logic.{_⊎_, inl, inr, ⊎-elim}
 use Prim.Native.Nat.{ℕ, _+_, _-_, _*_, _≤_, _<_}
 use native.Mathlib.Omega.{arith}
 use native.Mathlib.Nat.{mul-le-mul-left, add-comm}
 use lib.Dec.{T}
-use lib.IntN.{ℤ, pos, _-ℤ_, _*ℤ_}
+use lib.IntN.{ℤ, pos}
 use lib.Signed.{_<ℤ_}
 use lib.Ieee.{Float}
 use lib.Ieee.Positive.{den}
@@ -21,7 +21,7 @@ use Rattle.units.specs.Units.{product}
 use Rattle.units.specs.Exact.{Rounded}
 use Rattle.units.specs.declared.Units.{Units}
 use Rattle.orbit.specs.Mirror.{mirror}
-use Rattle.orbit.specs.Given.{Given, mirroredOf, cellOf, checksOf, problemChecks}
+use Rattle.orbit.specs.Given.{Given, mirroredOf, cellOf, checksOf}
 use Rattle.orbit.specs.declared.Cell.{Cell}
 use Rattle.ends.specs.Ends.{lowerEnd, upperEnd}
 use Rattle.ends.proofs.Apart.{apart}
@@ -30,7 +30,7 @@ use Rattle.enclosure.specs.declared.Enclosure.{Enclosure}
 use Rattle.enclosure.specs.declared.Found.{Found}
 use Rattle.enclosure.proofs.Encloses.{Encloses, always, code-zero, encloses}
 use Rattle.judge.specs.Verdict.{lowEnd, highEnd}
-use Rattle.judge.specs.Judge.{Claim, claimOf, claimChecks, caseAt, verdict, judgeRule}
+use Rattle.judge.specs.Judge.{Claim, claimOf, caseAt, verdict, judgeRule}
 use Rattle.judge.specs.Limits.{CaseIn}
 use Rattle.judge.specs.declared.Verdict.{Verdict}
 use Rattle.judge.specs.declared.Verdict.the-variants.{Confirmed, Refuted}
