@@ -5,6 +5,7 @@ just holds or just fails, an estimate whose tolerance just reaches the root.
 They are drawn for M from 0 up, and half of them are then mirrored. A few have
 an input outside its limit, or one whose sign opposes that of M. Problems are
 drawn by draw_grid, draw_doubles or draw_spent: that is the family of a case.
+Distances are drawn some to an orbit, whose enclosure serves them all.
 """
 from functools import partial
 
@@ -15,9 +16,14 @@ import draw_grid
 import draw_spent
 import draws
 import records
+import rules
 import wire
+from cells import pose
 from draws import small
 from limits import DEPTHS, H, T, TOLERANCE
+
+# How many estimates of one orbit are drawn.
+PER_ORBIT = 10
 
 
 def is_mirrored(rng, given):
@@ -136,6 +142,42 @@ def settle_case(rng, family):
                        draws.spoil(rng, n, TOLERANCE))
 
 
+def distance_case(rng, family):
+    """An estimate as of a claim."""
+    given, bits, _ = any_claim(rng, family)
+    return wire.distance(family.spoil(rng, given), bits)
+
+
+def units_by(rng, a, b):
+    """Units at one of two ends or beside it, mostly by few; between the two;
+    at a limit or anywhere."""
+    way = rng.randrange(8)
+    if way == 0:
+        return rng.choice((0, 1, T - 1, T))
+    if way == 1:
+        return draws.angle(rng)
+    if way == 2:
+        return rng.randrange(a, b + 1)
+    off = small(rng, rng.choice((1, 2, 3, 17)))
+    return rng.choice((a, b)) + rng.choice((1, -1)) * off
+
+
+def estimate_by(rng, given, ends):
+    """Bits of an estimate by the ends of the problem as it is posed, which
+    now and then has not M's sign."""
+    bits = draws.estimate(rng, units_by(rng, *ends))
+    return bits ^ doubles.SIGN if given.negative != opposes(rng) else bits
+
+
+def distance_cases(rng, family):
+    """Of one orbit."""
+    given = orbit(rng, family)
+    ends = rules.searches(pose(given).cell, DEPTHS[-1])
+    return [wire.distance(family.spoil(rng, given),
+                          estimate_by(rng, given, ends))
+            for _ in range(PER_ORBIT)]
+
+
 def figures_case(rng):
     return wire.figures(draw_figures.any_a(rng))
 
@@ -174,6 +216,8 @@ def of_both(case):
 GRID_END, DOUBLE_END = of_both(end_case)
 GRID_VERDICT, DOUBLE_VERDICT = of_both(verdict_case)
 GRID_SETTLE, DOUBLE_SETTLE = of_both(settle_case)
+GRID_DISTANCE, DOUBLE_DISTANCE = of_both(distance_case)
+GRID_DISTANCES, DOUBLE_DISTANCES = of_both(distance_cases)
 GRID_ENCLOSURE, DOUBLE_ENCLOSURE = of_both(enclosure_case)
 GRID_PROPOSAL, DOUBLE_PROPOSAL = of_both(proposal_case)
 
@@ -198,4 +242,18 @@ KINDS = {
     "spent enclosures": (partial(enclosure_case, family=draw_spent), 1_000,
                          500),
     "spent settled": (partial(settle_case, family=draw_spent), 10_000, 5_000),
+    "distances": (GRID_DISTANCES, 40_000, 5_000),
+    "double distances": (DOUBLE_DISTANCES, 40_000, 5_000),
+    "spent distances": (partial(distance_cases, family=draw_spent), 10_000,
+                        5_000),
 }
+# The kinds that are drawn by orbits.
+BY_ORBIT = ("distances", "double distances", "spent distances")
+
+
+def drawn(rng, kind, count):
+    """So many cases of a kind."""
+    draw = KINDS[kind][0]
+    if kind in BY_ORBIT:
+        return [call for _ in range(count // PER_ORBIT) for call in draw(rng)]
+    return [draw(rng) for _ in range(count)]

@@ -63,6 +63,11 @@ def floor_and_ceiling(bits, limit):
     return None if c > limit else (f, c)
 
 
+def estimate_units(bits, mirrored):
+    """R41, R59: f and c of an estimate, or None where it is none for M."""
+    return floor_and_ceiling(mirror_double(bits, mirrored), T)
+
+
 # ---- Posing ----------------------------------------------------------------
 
 def pose(given):
@@ -94,6 +99,11 @@ def pose_doubles(m, e):
 def depth_code(depth):
     """R5, code 3."""
     return 0 if depth in DEPTHS else 3
+
+
+def estimate_code(units):
+    """R5, code 4: of f and c, or None."""
+    return 4 if units is None else 0
 
 
 def angle_code(x):

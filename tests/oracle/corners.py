@@ -19,6 +19,7 @@ from rules import CONFIRMED, UNDECIDED
 ROUND = ((cases.GRID_END, 7), (cases.GRID_VERDICT, 7),
          (cases.GRID_ENCLOSURE, 3), (cases.GRID_PROPOSAL, 2))
 SETTLED_ROUND = ((cases.GRID_SETTLE, 1),)
+DISTANCE_ROUND = ((cases.GRID_DISTANCE, 1),)
 
 
 def grid_points(ask, rng, count, kinds):

@@ -3,9 +3,9 @@
 Each function draws cases, asks the library and yields facts: what was given
 of M and e (None where nothing was), whether the fact holds, and a sentence for
 the case that it does not. A fact that was held against the true root has that
-as a fourth part; those of widths have the width. No rule of sine, search or
-judge is used here, only the exact sums. The family of a problem is as in
-cases.py.
+as a fourth part, and one of a distance more behind it; those of widths have
+the width. No rule of sine, search or judge is used here, only the exact sums.
+The family of a problem is as in cases.py.
 """
 from fractions import Fraction
 from math import ceil, floor

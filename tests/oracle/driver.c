@@ -20,6 +20,7 @@ enum entry {
     PROPOSE,
     JUDGE,
     SETTLE,
+    DISTANCE,
     FIGURES,
     BATCH,
     LOWER_END_DOUBLE,
@@ -27,7 +28,8 @@ enum entry {
     ENCLOSE_DOUBLE,
     PROPOSE_DOUBLE,
     JUDGE_DOUBLE,
-    SETTLE_DOUBLE
+    SETTLE_DOUBLE,
+    DISTANCE_DOUBLE
 };
 
 struct request {
@@ -119,6 +121,13 @@ static struct reply of_settled(struct stripeawn_settled s)
     return reply;
 }
 
+static struct reply of_off(struct stripeawn_off s)
+{
+    struct reply reply = { s.code, s.least, s.most, 0, 0 };
+
+    return reply;
+}
+
 static struct reply of_figures(uint64_t width, uint32_t n)
 {
     struct reply reply = { 0, (int64_t)width, n, 0, 0 };
@@ -166,6 +175,8 @@ static struct reply ask_double(const struct request *r)
     case SETTLE_DOUBLE:
         return of_settled(
             stripeawn_settle_double(m, e, double_of(r->bits), r->n));
+    case DISTANCE_DOUBLE:
+        return of_off(stripeawn_distance_double(m, e, double_of(r->bits)));
     }
     fail("an unknown entry");
     return none;
@@ -190,6 +201,8 @@ static struct reply ask(const struct request *r)
     case SETTLE:
         return of_settled(
             stripeawn_settle(r->m, r->a, double_of(r->bits), r->n));
+    case DISTANCE:
+        return of_off(stripeawn_distance(r->m, r->a, double_of(r->bits)));
     case FIGURES:
         return of_figures(stripeawn_greatest_width(r->a),
                           stripeawn_least_n(r->a));

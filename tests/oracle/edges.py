@@ -3,12 +3,14 @@ double, batches whole, damaged and truncated.
 
 What is given is of the grid or doubles, and the cases beside it are alike.
 Those where sine's terms are spent are in spent.py, in settle.py those where
-a claim that is settled without a depth is about to turn, and in figures.py
-those of the figures.
+a claim that is settled without a depth is about to turn, in distance.py those
+of estimates beside the ends of an enclosure, and in figures.py those of the
+figures.
 """
 from functools import partial
 from itertools import product
 
+import distance
 import doubles
 import figures
 import records
@@ -86,7 +88,7 @@ def proposals(every_given):
 
 
 def claims(entry, every_given, *others):
-    """Of the judge, or of the one that takes no depth."""
+    """Of the judge, of the one that takes no depth, or of a distance."""
     every = product(every_given(), doubles.every_kind(), *others)
     return [entry(*inputs) for inputs in every]
 
@@ -152,7 +154,15 @@ def near_parabolic(every_given):
         cases += [wire.judge(*claim, depth) for claim in near
                   for depth in depths]
         cases += [wire.settle(*claim) for claim in near]
+        cases += [wire.distance(*claim) for claim in
+                  sorted({(each, bits) for each, bits, _ in near})]
     return cases
+
+
+def double_ends():
+    """Estimates beside the ends of near-parabolic doubles."""
+    return distance.at_ends(given for given in near_parabolic_doubles()
+                            if not given.negative)
 
 
 KINDS = {
@@ -164,6 +174,8 @@ KINDS = {
     "settled": partial(claims, wire.settle, on_grid, TOLERANCES),
     "settled at limits": settle.limit_edges,
     "settled at turns": settle.turning_edges,
+    "distances": partial(claims, wire.distance, on_grid),
+    "distances at ends": distance.end_edges,
     "figures": figures.edges,
     "batches": batches,
     "near parabolic": partial(near_parabolic, near_parabolic_grid),
@@ -175,6 +187,8 @@ KINDS = {
                                (0, 65_535, 65_536), (5,)),
     "double settled": partial(claims, wire.settle, off_grid,
                               (0, 65_535, 65_536)),
+    "double distances": partial(claims, wire.distance, off_grid),
+    "double distances at ends": double_ends,
     "double near parabolic": partial(near_parabolic, near_parabolic_doubles),
     "spent sine": spent.sine_edges,
     "spent ends": spent.end_edges,

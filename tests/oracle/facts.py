@@ -3,8 +3,10 @@ from functools import partial
 
 import corners
 import demands
+import distance
 import draw_doubles
 import draw_grid
+import draw_spent
 import figures
 import mirrors
 import settle
@@ -23,6 +25,8 @@ def round_of(kinds, check=mirrors.mirrors):
 SPENT_KINDS = ("spent sines", "spent ends")
 SETTLED_KINDS = ("settled", "double settled", "settled mirrors",
                  "settled grid points", "corners' settled")
+# Those whose facts about the root are of distances, R67 to R70.
+DISTANCE_KINDS = ("distances", "double distances", "spent distances")
 # Those of the figures: R63, whose facts each have a width beside them, R64 and
 # R65.
 WIDTHS, INSIDE, FAR = "widths", "inside estimates", "far estimates"
@@ -57,6 +61,12 @@ KINDS = {
     "settled grid points": (round_of(corners.SETTLED_ROUND,
                                      corners.grid_points), 8_000, 2_000),
     "corners' settled": (corners.settled, 8_000, 2_000),
+    "distances": (of(draw_grid, distance.distances), 6_000, 500),
+    "double distances": (of(draw_doubles, distance.distances), 6_000, 500),
+    "spent distances": (of(draw_spent, distance.distances), 1_000, 500),
+    "distance mirrors": (round_of(mirrors.DISTANCE_ROUND), 8_000, 2_000),
+    "distance grid points": (round_of(corners.DISTANCE_ROUND,
+                                      corners.grid_points), 8_000, 2_000),
     WIDTHS: (figures.widths, 110_000, 5_000),
     INSIDE: (figures.inside_estimates, 110_000, 5_000),
     FAR: (figures.far_estimates, 110_000, 5_000),

@@ -20,6 +20,7 @@ GRID_ROUND = ((cases.GRID_END, 7), (cases.GRID_VERDICT, 7),
 DOUBLE_ROUND = ((cases.DOUBLE_END, 7), (cases.DOUBLE_VERDICT, 7),
                 (cases.DOUBLE_ENCLOSURE, 3), (cases.DOUBLE_PROPOSAL, 2))
 SETTLED_ROUND = ((cases.GRID_SETTLE, 1), (cases.DOUBLE_SETTLE, 1))
+DISTANCE_ROUND = ((cases.GRID_DISTANCE, 1), (cases.DOUBLE_DISTANCE, 1))
 
 
 def has_mirror(given, x=0):
@@ -41,7 +42,7 @@ def mirror_call(call):
     given = call.given.mirror()
     if call.entry == wire.BATCH:
         return call._replace(claims=mirror_claims(call.claims))
-    if call.entry in (wire.JUDGE, wire.SETTLE):
+    if call.entry in (wire.JUDGE, wire.SETTLE, wire.DISTANCE):
         return call._replace(given=given, bits=call.bits ^ doubles.SIGN)
     return call._replace(entry=OTHER_ENTRY.get(call.entry, call.entry),
                          given=given, x=-call.x)

@@ -34,6 +34,13 @@ class Root(NamedTuple):
         """Whether it is certain that it is."""
         return low * PARTS <= self.low and self.high <= high * PARTS
 
+    def distances(self, units):
+        """How far from an angle in units the root is at the least and at the
+        most, in parts of a unit."""
+        x = units * PARTS
+        return (max(self.low - x, x - self.high, 0),
+                max(self.high - x, x - self.low))
+
 
 def gap(x):
     """x - sin x in floats, where x is small by its series: a difference of

@@ -8,8 +8,8 @@ from fractions import Fraction
 from functools import lru_cache
 from math import floor
 
-from cells import (angle_code, depth_code, floor_and_ceiling, mirror,
-                   mirror_double, pose, up)
+from cells import (angle_code, depth_code, estimate_code, estimate_units,
+                   mirror, pose, up)
 from limits import DEPTHS, T, TOLERANCE, UNIT
 
 # R45
@@ -127,6 +127,12 @@ def search_upper(cell, depth):
     return q
 
 
+@lru_cache(maxsize=20_000)
+def searches(cell, depth):
+    """R26, R27: a and b, of a problem as it is posed."""
+    return search_lower(cell, depth), search_upper(cell, depth)
+
+
 def enclose(given, depth):
     """R28, R31, R59: code 6 comes last, and the mirror exchanges the ends."""
     code, mirrored, cell = pose(given)
@@ -135,7 +141,7 @@ def enclose(given, depth):
         code = 6
     if code:
         return code, 0, 0
-    found = [search_lower(cell, depth), search_upper(cell, depth)]
+    found = searches(cell, depth)
     lower, upper = reversed(found) if mirrored else found
     return 0, mirror(lower, mirrored), mirror(upper, mirrored)
 
@@ -222,10 +228,8 @@ def is_refuted(cell, f, c, n, depth):
 def judge(given, bits, n, depth):
     """R41, R45, R48, R59."""
     code, mirrored, cell = pose(given)
-    code = code or depth_code(depth)
-    units = floor_and_ceiling(mirror_double(bits, mirrored), T)
-    if not code and units is None:
-        code = 4
+    units = estimate_units(bits, mirrored)
+    code = code or depth_code(depth) or estimate_code(units)
     if not code and n > TOLERANCE:
         code = 5
     if code:
@@ -247,3 +251,16 @@ def settle(given, bits, n):
         if verdict != UNDECIDED:
             break
     return 0, verdict, depth
+
+
+# ---- How far off -----------------------------------------------------------
+
+def distance(given, bits):
+    """R67, R68, R59: a distance has no sign."""
+    code, mirrored, cell = pose(given)
+    units = estimate_units(bits, mirrored)
+    code = code or estimate_code(units)
+    if code:
+        return code, 0, 0
+    (f, c), (a, b) = units, searches(cell, DEPTHS[-1])
+    return 0, max(a - c, f - b, 0), max(c - a, b - f)

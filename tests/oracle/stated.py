@@ -5,6 +5,7 @@ stated of an M above 0 is stated of -M too, as its mirror; and what is stated
 of the grid also of the same numbers as doubles.
 """
 import doubles
+import stated_distance
 import stated_doubles
 import stated_figures
 import stated_settle
@@ -139,7 +140,8 @@ def stated():
                (NEGATIVE_BATCH, (0, 6, b"\x10\x04\x10\x01\x01\x11\xEE",
                                  NEGATIVE_BATCH.claims))]
     grid = (ends() + enclosures() + circles() + verdicts()
-            + stated_settle.on_grid() + stated_figures.on_grid())
+            + stated_settle.on_grid() + stated_figures.on_grid()
+            + stated_distance.on_grid())
     return (sines + stated_spent.sines() + stated_figures.figures() + batches
             + grid + as_doubles(grid) + stated_doubles.stated()
-            + stated_settle.off_grid())
+            + stated_settle.off_grid() + stated_distance.off_grid())

@@ -72,6 +72,7 @@ def refused():
         given = Doubles(m, e)
         yield wire.propose(given), (code, 0, 0, 0, 0)
         yield wire.settle(given, NANS[0], 65_536), (code, 0, 0)
+        yield wire.distance(given, NANS[0]), (code, 0, 0)
         for d in (0, 5):
             yield wire.enclose(given, d), (code, 0, 0)
             yield wire.judge(given, NANS[0], 65_536, d), (code, 0)
@@ -108,6 +109,8 @@ def zeros():
             yield wire.judge(given, SIGN + 1, 0, 5), (4, 0)
             yield wire.settle(given, SIGN, 0), (0, CONFIRMED, 1)
             yield wire.settle(given, SIGN + 1, 0), (4, 0, 0)
+            yield wire.distance(given, SIGN), (0, 0, 0)
+            yield wire.distance(given, SIGN + 1), (4, 0, 0)
 
 
 def stated():

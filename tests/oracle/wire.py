@@ -8,10 +8,10 @@ from given import Doubles, Grid
 # The driver's order. Behind these come the entries of doubles in the same
 # order, each BATCH further on than its entry of the grid; sine and figures
 # have none. The figures are the header's two functions of A, in one reply.
-(SINE, LOWER_END, UPPER_END, ENCLOSE, PROPOSE, JUDGE, SETTLE, FIGURES,
- BATCH) = range(9)
+(SINE, LOWER_END, UPPER_END, ENCLOSE, PROPOSE, JUDGE, SETTLE, DISTANCE,
+ FIGURES, BATCH) = range(10)
 NAMES = ("sine", "lower_end", "upper_end", "enclose", "propose", "judge",
-         "settle", "figures", "judge_claims")
+         "settle", "distance", "figures", "judge_claims")
 
 # M and X are signed, but for the X of sine.
 REQUEST = struct.Struct("<I2i3I3Q")
@@ -66,6 +66,10 @@ def judge(given, bits, n, depth):
 
 def settle(given, bits, n):
     return Call(SETTLE, given, 0, n, 0, bits)
+
+
+def distance(given, bits):
+    return Call(DISTANCE, given, bits=bits)
 
 
 def figures(a):
