@@ -220,7 +220,7 @@ pub distance : Distance
 unfolding distanceRule
 distance =
     record {
-      true-of = λ g x z. off-true g x (distances g x .demand .passed .0 z);
+      off = λ g x z. off-true g x (distances g x .demand .passed .0 z);
       in-order = in-order;
       confirmed = confirmed;
       refuted = refuted;

@@ -39,7 +39,7 @@ pub record Between (ends : Enclosure) (p : ℤ) (q : ℕ) : Type 0 where
 abbrev pub gap : ℤ → ℕ → ℤ → ℕ → ℕ
 gap v t p q = natAbs ((p *ℤ pos t) -ℤ (v *ℤ pos q))
 
--- R69: what the answer r says of an estimate with the code 0
+-- R69: what an answer r with code 0 says of the estimate
 pub record OffTrue (g : Given) (x : Float) (r : Off) : Type 0 where
   -- R68: the problem has an enclosure, f and c are the estimate's, and r is by them
   pub enclosed : enclosureOf g .code ≡ number done
@@ -57,7 +57,7 @@ pub record OffTrue (g : Given) (x : Float) (r : Off) : Type 0 where
 
 pub record Distance : Type 0 where
   -- R68, R69
-  pub true-of : (g : Given) (x : Float) → distanceRule g x .code ≡ number done → OffTrue g x (distanceRule g x)
+  pub off : (g : Given) (x : Float) → distanceRule g x .code ≡ number done → OffTrue g x (distanceRule g x)
   pub in-order : (g : Given) (x : Float) → distanceRule g x .least ≤ distanceRule g x .most
   -- R70: of the judge's verdicts, of the settled ones and of a batch's bytes
   pub confirmed : (c : Claim) → judgeRule c ≡ verdict Confirmed → distanceRule (c .given) (c .estimate) .least ≤ c .n
