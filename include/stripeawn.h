@@ -521,7 +521,9 @@ struct stripeawn_settled stripeawn_settle(int32_t m, uint32_t a,
 **    against it; how good it is, most says.
 ** 3) No verdict is contradicted: where stripeawn_judge_double, or on the grid
 **    stripeawn_judge, says Confirmed, least is not above its n, and where it
-**    says Refuted, most is above its n, at any depth. After Undecided the
+**    says Refuted, most is above its n, at any depth. A verdict may say a
+**    little more: now and then most is above the n of a Confirmed claim, as
+**    the accepted angles need not be one unbroken run. After Undecided the
 **    two may still settle the matter, as near M = 0 and e = 1 they do: at
 **    M = 0, e = 1 the estimate 2^-9, whose residual is a third of a unit, is
 **    off by 524288 units, at least and at most.

@@ -130,6 +130,18 @@ static void test_depth_5(void)
     distance_is(HERE, 734064451, 67147247, units(755614012), 0, 2, 5);
 }
 
+/*
+** The ends are 218439871 and 218439890, though the judge accepts 218439873 as
+** a lower end: most may be above the n of a Confirmed claim.
+*/
+static void test_confirmed_farther(void)
+{
+    double estimate = 218439883.5 * STRIPEAWN_UNIT;
+
+    verdict_is(HERE, 23322495, 268435404, estimate, 11, 4, 0, 16);
+    distance_is(HERE, 23322495, 268435404, estimate, 0, 0, 13);
+}
+
 static void test_anomalies(void)
 {
     distance_is(HERE, H, 0, units(H), 0, 0, 0);
@@ -204,6 +216,7 @@ void test_distance(void)
     test_next_to_ends();
     test_wide();
     test_depth_5();
+    test_confirmed_farther();
     test_anomalies();
     test_eccentricities();
     test_estimates_below_0();

@@ -251,6 +251,9 @@ others =
     ∷ off (grid (pos 257812739) 1570330) 0x3feee338b9000000 1 4
     ∷ off (grid (pos 257812739) 1570330) 0x3feee338c2800000 1 4
     ∷ off (grid (minus 257812739) 1570330) 0xbfeee338b9000000 1 4
+    -- an estimate of 218439883.5 units that is Confirmed with N = 11, and may be farther off by what the search finds
+    ∷ judged (grid (pos 23322495) 268435404) 0x3fea0a4197000000 11 4 Confirmed
+    ∷ off (grid (pos 23322495) 268435404) 0x3fea0a4197000000 0 13
     -- M = half a unit, e = 1 and the estimate near its root
     ∷ off (bits 0x3e20000000000000 0x3ff0000000000000) 0x3f62515fd0117e41 0 600240
     -- a NaN beside a bad M and a bad A; estimates that oppose M
