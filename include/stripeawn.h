@@ -524,9 +524,9 @@ struct stripeawn_settled stripeawn_settle(int32_t m, uint32_t a,
 **    says Refuted, most is above its n, at any depth. A verdict may say a
 **    little more: now and then most is above the n of a Confirmed claim, as
 **    the accepted angles need not be one unbroken run. After Undecided the
-**    two may still settle the matter, as near M = 0 and e = 1 they do: at
-**    M = 0, e = 1 the estimate 2^-9, whose residual is a third of a unit, is
-**    off by 524288 units, at least and at most.
+**    two may still settle the matter, as at M = 0, e = 1, where the estimate
+**    2^-9, whose residual is a third of a unit, is off by 524288 units, at
+**    least and at most.
 ** 4) It takes the time of an enclosure at depth 5, many times that of the
 **    judge: judge first, and ask for the distance where that is Undecided or
 **    the figure itself is wanted.
