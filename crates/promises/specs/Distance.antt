@@ -32,6 +32,7 @@ pub record OffBy (ends : Enclosure) (f c : ℤ) (r : Off) : Type 0 where
 
 -- R69: p / q units, from the lower to the upper end
 pub record Between (ends : Enclosure) (p : ℤ) (q : ℕ) : Type 0 where
+  pub over-0 : 0 < q
   pub lower : (ends .lower *ℤ pos q) ≤ℤ p
   pub upper : p ≤ℤ (ends .upper *ℤ pos q)
 
