@@ -101,6 +101,8 @@
 ** 4) The entries that take doubles want the processor's usual handling of
 **    subnormal ones. A program linked with -ffast-math may have them read as
 **    zeros; an entry then sees another M, e or estimate than the one meant.
+**    The entries that make a step compute in doubles, and want the usual
+**    rounding too, to nearest, which fesetround may have changed.
 ** 5) On the grid an unsigned M from 3451652440 (2^32 - H) up, which versions
 **    before 0.3 refuse with code 1, reads as a negative M, in a record too.
 **
@@ -135,9 +137,9 @@ extern "C" {
 
 /* Version. */
 #define STRIPEAWN_VERSION_MAJOR 0
-#define STRIPEAWN_VERSION_MINOR 7
+#define STRIPEAWN_VERSION_MINOR 8
 #define STRIPEAWN_VERSION_PATCH 0
-#define STRIPEAWN_VERSION "0.7.0"
+#define STRIPEAWN_VERSION "0.8.0"
 
 /* Limits: the greatest value taken. M goes down to -H, and X to -T. */
 #define STRIPEAWN_M_MAX 843314856     /* H, the whole part of pi 2^28      */
@@ -154,7 +156,7 @@ extern "C" {
 /*
 ** Codes. Each is given exactly when its condition holds and no code before
 ** it in the entry's order applies. The order over all entries is 9, 1, 2, 3,
-** 10, 4, 5, 6; in a batch, 7 and then 8 come before any record is read.
+** 10, 4, 5, 6, 21; in a batch, 7 and then 8 come before any record is read.
 */
 #define STRIPEAWN_DONE 0u             /* done                              */
 #define STRIPEAWN_BAD_M 1u            /* size of M above H units; as a     */
@@ -174,6 +176,12 @@ extern "C" {
 #define STRIPEAWN_BAD_RESERVED 9u     /* reserved byte of a claim not zero */
 #define STRIPEAWN_BAD_X 10u           /* angle X opposing M, or of size    */
                                       /*   above T                         */
+#define STRIPEAWN_BAD_METHOD 21u      /* method neither 1 nor 2            */
+
+/* Methods of a step, and the steps taken. */
+#define STRIPEAWN_NEWTON 1u           /* Newton's step                     */
+#define STRIPEAWN_HALLEY 2u           /* Halley's step                     */
+#define STRIPEAWN_FLAT 3u             /* no step: nothing is handed over   */
 
 /* Verdicts, on an estimate and a tolerance of N units. */
 #define STRIPEAWN_CONFIRMED 16u       /* the root is within N units of it  */
@@ -189,6 +197,7 @@ extern "C" {
 **    its name, or "unknown number" where it is neither; never NULL
 ** Notes:
 ** 1) Compare numbers and not names, which may be worded otherwise one day.
+** 2) The number of a step is no code, and has no name here.
 */
 static inline const char *stripeawn_name(uint32_t number)
 {
@@ -204,6 +213,7 @@ static inline const char *stripeawn_name(uint32_t number)
     case STRIPEAWN_SHORT_ANSWERS: return "answers buffer too short";
     case STRIPEAWN_BAD_RESERVED: return "reserved byte not zero";
     case STRIPEAWN_BAD_X: return "angle X out of range";
+    case STRIPEAWN_BAD_METHOD: return "method neither 1 nor 2";
     case STRIPEAWN_CONFIRMED: return "Confirmed";
     case STRIPEAWN_REFUTED: return "Refuted";
     case STRIPEAWN_UNDECIDED: return "Undecided";
@@ -250,6 +260,19 @@ struct stripeawn_off {
     uint32_t least, most;             /* units from the root, 0 to T       */
 };
 
+struct stripeawn_stepped {
+    uint32_t code;
+    uint32_t step;                    /* 1 Newton, 2 Halley, 3 flat        */
+    double estimate;                  /* the new one, radians; 0 if flat   */
+};
+
+struct stripeawn_judged_step {
+    uint32_t code;
+    uint32_t step;                    /* 1 Newton, 2 Halley, 3 flat        */
+    double estimate;                  /* the new one, radians; 0 if flat   */
+    uint32_t verdict;                 /* 16, 17 or 18; 0 if flat           */
+};
+
 struct stripeawn_batch {
     uint32_t code;
     uint64_t count;                   /* claims answered                   */
@@ -278,6 +301,29 @@ struct stripeawn_batch {
 **    more time: depth 5 is as fast there.
 */
 struct stripeawn_bounds stripeawn_sine(uint32_t x, uint32_t depth);
+
+/*
+** stripeawn_cosine: whole-number bounds of the cosine of an angle.
+**
+** Given:
+**    x       angle, units, 0 to T
+**    depth   1 to 5
+** Returned:
+**    lo      lower bound of 2^28 cos(x / 2^28)
+**    hi      upper bound of it
+** Status:
+**    3 = depth not 1 to 5
+**    10 = x above T
+**    0 = done
+** Notes:
+** 1) lo is at most 2^28 C9(x) and hi at least 2^28 C10(x), at every depth,
+**    with C9 and C10 the Taylor sums of cosine up to degree 18 and 20. With
+**    greater depth lo never falls and hi never rises. At depth 5 they are at
+**    most 26 units apart.
+** 2) Both may be below zero, and beyond one radian in size: at T they are
+**    -1056240623 and 33261948 at depth 1, -2^28 - 7 and -2^28 + 7 at depth 5.
+*/
+struct stripeawn_bounds stripeawn_cosine(uint32_t x, uint32_t depth);
 
 /*
 ** stripeawn_lower_end_double: is the root certainly not below x?
@@ -536,6 +582,64 @@ struct stripeawn_off stripeawn_distance_double(double m, double e,
 
 struct stripeawn_off stripeawn_distance(int32_t m, uint32_t a,
                                         double estimate);
+
+/*
+** stripeawn_step_judged: one step of Newton or Halley, judged.
+** stripeawn_step: the step alone. Both are on the grid.
+**
+** Given:
+**    m          M in units, -H to H
+**    a          A, 0 to 2^28
+**    estimate   angle in radians, 0 to T / 2^28; where m is below 0,
+**               -T / 2^28 to 0; either zero counts as 0
+**    method     1 Newton, 2 Halley
+**    n          to judge: tolerance, units, 0 to 65535
+**    depth      to judge: 1 to 5
+** Returned:
+**    step       1 Newton's or 2 Halley's step was taken; 3 flat: none was
+**    estimate   the new estimate, radians, on m's side of 0; plus zero where
+**               the step is flat
+**    verdict    the judge's on the new estimate: 16 Confirmed, 17 Refuted,
+**               18 Undecided; 0 where the step is flat
+** Status:
+**    1 = size of M above H units
+**    2 = A above 2^28
+**    3 = depth not 1 to 5 (judged steps only)
+**    4 = estimate NaN, infinite, opposing M, or of size above T units
+**    5 = n above 65535 (judged steps only)
+**    21 = method neither 1 nor 2
+**    0 = done
+** Notes:
+** 1) For m not below 0, with f the estimate E in units, rounded down,
+**        s = lo of stripeawn_sine(f, 5) / 2^28      m = m / 2^28
+**        k = lo of stripeawn_cosine(f, 5) / 2^28    e = a / 2^28
+**    which are exact in doubles; then, every operation rounded once to a
+**    double, in this order and none of them fused,
+**        g = e s        F = (E - m) - g        D = 1 - e k
+**        Newton:   E - F / D
+**        Halley:   E - ((2 F) D) / (((2 D) D) - (F g))
+** 2) The step is flat where its divisor, D or ((2 D) D) - (F g), is 0, or
+**    where the new estimate would get code 4: where it is NaN, infinite,
+**    below 0 or above T units. A flat step hands nothing over. A new
+**    estimate that is a zero is handed over as plus zero.
+** 3) For m below 0 it is the step of -m from -estimate, and the new estimate
+**    has its sign changed; zero stays plus zero.
+** 4) A step only proposes. Nothing is promised of how good the new estimate
+**    is, nor that steps come nearer to the root: near the parabolic limit
+**    they may go astray, stand still or be flat. What is certain about it the
+**    judge says; so end a loop of steps on its verdict, and not on a small
+**    residual or a small step. A handed estimate never gets code 4.
+** 5) The verdict is stripeawn_judge's for the same m, a, n and depth and the
+**    new estimate, and what the notes there say of it holds here too.
+*/
+struct stripeawn_judged_step stripeawn_step_judged(int32_t m, uint32_t a,
+                                                   double estimate,
+                                                   uint32_t method,
+                                                   uint32_t n,
+                                                   uint32_t depth);
+
+struct stripeawn_stepped stripeawn_step(int32_t m, uint32_t a,
+                                        double estimate, uint32_t method);
 
 /*
 ** stripeawn_greatest_width: how far apart the ends of an enclosure can be.
