@@ -39,7 +39,7 @@ biased-le y z v w h =
     let p = biased-parts y v in
     let q = biased-parts z w in omega arith
 
-unbiased-is : (z : ℤ) → InBounds z → subℕ (biased z) bias ≡ z
+pub unbiased-is : (z : ℤ) → InBounds z → subℕ (biased z) bias ≡ z
 unbiased-is z w =
     let p = biased-parts z w in
     one-number (is-sub (biased z) bias) (record { eq = omega arith })
@@ -70,7 +70,5 @@ unbiased-fits n h =
     (λ t. record { sfits = omega arith })
 
 -- a number unbiased again, as it is read back from the bits of an i64
-pub unbiased-back : (r : ℤ) (b : ℕ) (z : ℤ) → r ≡ subℕ b bias → b ≡ biased z → InBounds z → toZ w64 (ofZ w64 r) ≡ z
-unbiased-back r b z e f w =
-    let g : r ≡ z = e ∙ ap (λ (n : ℕ). subℕ n bias) f ∙ unbiased-is z w in
-    toZ-ofZ (subst (SFits w64) (sym e) (unbiased-fits b (subst (λ (n : ℕ). n ≤ 2 * bias) (sym f) (biased-small z w)))) ∙ g
+pub unbiased-back : (r : ℤ) (b : ℕ) → r ≡ subℕ b bias → b ≤ 2 * bias → toZ w64 (ofZ w64 r) ≡ subℕ b bias
+unbiased-back r b e h = toZ-ofZ (subst (SFits w64) (sym e) (unbiased-fits b h)) ∙ e

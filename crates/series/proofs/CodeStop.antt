@@ -18,16 +18,19 @@ use Rattle.series.proofs.CodeWalk.{bounds}
 use Rattle.series.proofs.Stays.{low-stays, high-stays, spent-angles}
 
 -- the bounds that a walk has come to are those of its depth, and of every greater one where the terms are spent
-module _ {w : Walk} {X n d : ℕ} where
-  pub at-depth : d ≡ suc n → w ≡ walk sine X (suc n) → _≡_ {A = Biased} record { lo = w .greatest; hi = w .least } (biasedBounds sine X d)
-  at-depth f e = bounds sine w X (suc n) (omega arith) e ∙ ap (biasedBounds sine X) (sym f)
+module _ (s : Series) {w : Walk} {X n d : ℕ} where
+  pub at-depth : d ≡ suc n → w ≡ walk s X (suc n) → _≡_ {A = Biased} record { lo = w .greatest; hi = w .least } (biasedBounds s X d)
+  at-depth f e = bounds s w X (suc n) (omega arith) e ∙ ap (biasedBounds s X) (sym f)
 
-  pub at-spent : leb X (lastSpent (suc n)) ≡ true → suc n ≤ d → suc n ≤ depths → w ≡ walk sine X (suc n)
-      → _≡_ {A = Biased} record { lo = w .greatest; hi = w .least } (biasedBounds sine X d)
-  at-spent t k few e =
-      let s = spent-angles X (suc n) (omega arith) few .1 (leb-true X (lastSpent (suc n)) t) in
-      bounds sine w X (suc n) (omega arith) e
-      ∙ sym (ap₂ (λ (low high : ℤ). record { lo = biased low; hi = biased high }) (low-stays s (omega arith) d k) (high-stays s (omega arith) d k))
+  pub at-spent : Spent s X n → 1 ≤ n → n ≤ d → w ≡ walk s X n
+      → _≡_ {A = Biased} record { lo = w .greatest; hi = w .least } (biasedBounds s X d)
+  at-spent h some k e =
+      bounds s w X n some e
+      ∙ sym (ap₂ (λ (low high : ℤ). record { lo = biased low; hi = biased high }) (low-stays h some d k) (high-stays h some d k))
+
+-- sine's are, up to an angle
+pub spent-by : {X : ℕ} {n : ℕ} → leb X (lastSpent (suc n)) ≡ true → suc n ≤ depths → Spent sine X (suc n)
+spent-by {X} {n} t few = spent-angles X (suc n) (omega arith) few .1 (leb-true X (lastSpent (suc n)) t)
 
 -- a walk's test of its last term
 pub spent-walk : (s : Series) (w : Walk) (X n : ℕ) → w ≡ walk s X n → spentAt w ≡ true → Spent s X n

@@ -1,3 +1,4 @@
+pub mod Answers
 pub mod Between
 pub mod BoundLimits
 pub mod BoundsTrue
@@ -12,7 +13,6 @@ pub mod Falling
 pub mod Next
 pub mod RawTrue
 pub mod Rise
-pub mod SineRefuses
 pub mod SineTerms
 pub mod Stays
 pub mod Sums

@@ -5,3 +5,4 @@ pub mod Factorial
 pub mod Sine
 pub mod Entry
 pub mod Walk
+pub mod Asked

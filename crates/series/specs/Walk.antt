@@ -9,7 +9,6 @@ use Rattle.grid.specs.Grid.{one, T-units, depths}
 use Rattle.whole.specs.Round.{down, up}
 use Rattle.series.specs.Terms.{Series, l, u, Q-, Q+}
 use Rattle.series.specs.Bounds.{rawLow, rawHigh, greatestLow, leastHigh}
-use Rattle.series.specs.Sine.{sine}
 use Rattle.series.specs.declared.Walk.{Walk}
 use Rattle.series.specs.declared.Biased.{Biased}
 
@@ -130,8 +129,8 @@ pub record PairFits (w : Walk) (odd even : ℕ) : Type 0 where
   pub low : Room (w .low) (w .down) (oddUp w odd)
   pub high : Room (w .high) (evenUp w odd even) (oddDown w odd)
 
--- sine's walk with a pair to go
-pub record Unfinished (w : Walk) : Type 0 where
-  pub at : w ≡ walk sine (w .angle) (w .pairs)
+-- a walk with a pair to go
+pub record Unfinished (s : Series) (w : Walk) : Type 0 where
+  pub at : w ≡ walk s (w .angle) (w .pairs)
   pub top : w .angle ≤ T-units
   pub fewer : w .pairs < depths

@@ -1,4 +1,4 @@
-// Sine bounds in whole units: Lo and Hi of an angle at a depth.
+// Bounds of an alternating series in whole units, and sine's: Lo and Hi of an angle at a depth.
 ghost use mathlib.Core.Path.{_≡_};
 ghost use lib.IntN.{subℕ};
 ghost use Prim.Native.Nat.{suc, _*_, _≤_, max, min};
@@ -7,7 +7,8 @@ ghost use Rattle.grid.specs.Limits.{AngleIn, DepthIn};
 ghost use Rattle.whole.specs.Round.{down, up};
 ghost use Rattle.series.specs.Sine.{sine};
 ghost use Rattle.series.specs.Walk.{bias, biasedBounds, walk, begun, deepened, spentAt, term-limit, TermFits, PairFits, Unfinished};
-ghost use Rattle.series.specs.Entry.{sineBounds, sineRule};
+ghost use Rattle.series.specs.Entry.{sineRule};
+ghost use Rattle.series.specs.Asked.{askedFor, unbiasedBounds, Small};
 use grid::Angle;
 use grid::Depth;
 use grid::codes;
@@ -21,12 +22,19 @@ pub struct Biased {
     pub hi: u64,
 }
 
-// What the public entry answers.
+// What an entry answers.
 #[repr(C)]
-pub struct SineBounds {
+pub struct Bounds {
     pub code: u32,
     pub lo: i64,
     pub hi: i64,
+}
+
+// A code, and with code 0 the angle and the depth that are asked about.
+pub struct Asked {
+    pub code: u32,
+    pub angle: Angle,
+    pub depth: Depth,
 }
 
 // The walk through the terms of a series at an angle, after `pairs` pairs of them.
@@ -98,7 +106,7 @@ fn lesser(a: u64, b: u64) -> u64
 }
 
 // One pair of terms further, with the divisors of the odd-numbered and the even-numbered one.
-fn deepen(w: Walk, odd: u64, even: u64) -> Walk
+pub fn deepen(w: Walk, odd: u64, even: u64) -> Walk
     requires { ⌜ PairFits w odd even ⌝ }
     ensures { λ r. ⌜ r ≡ deepened w odd even ⌝ }
 {
@@ -124,7 +132,7 @@ fn deepen(w: Walk, odd: u64, even: u64) -> Walk
 
 // The next pair of sine's terms. Each pair's divisors stand in its own arm, so that the quotients are products.
 pub fn further(w: Walk) -> Walk
-    requires { ⌜ Unfinished w ⌝ }
+    requires { ⌜ Unfinished sine w ⌝ }
     ensures { λ r. ⌜ r ≡ walk sine (w .angle) (suc (w .pairs)) ⌝ }
 {
     let n = w.pairs;
@@ -138,7 +146,7 @@ pub fn further(w: Walk) -> Walk
 }
 
 // The bounds that a walk has come to.
-fn best(w: Walk) -> Biased
+pub fn best(w: Walk) -> Biased
     ensures { λ r. ⌜ r ≡ record { lo = w .greatest; hi = w .least } ⌝ }
 {
     Biased {
@@ -198,30 +206,45 @@ fn unbiased(biased: u64) -> i64
     (biased as i64) - (BIAS as i64)
 }
 
-// Lo and Hi of an angle and a depth within their limits, with code 0.
-fn sine_of(x: Angle, d: Depth) -> SineBounds
-    requires { ⌜ AngleIn x × DepthIn d ⌝ }
-    ensures { λ r. ⌜ r ≡ sineBounds (x .units) (d .pairs) ⌝ }
+// Both bounds as they are, with code 0.
+pub fn unbiased_bounds(b: Biased) -> Bounds
+    requires { ⌜ Small b ⌝ }
+    ensures { λ r. ⌜ r ≡ unbiasedBounds b ⌝ }
 {
-    let bounds = bounds_at(x, d);
-    SineBounds {
+    Bounds {
         code: codes::DONE,
-        lo: unbiased(bounds.lo),
-        hi: unbiased(bounds.hi),
+        lo: unbiased(b.lo),
+        hi: unbiased(b.hi),
     }
 }
 
-// Lo and Hi of an angle of x units at a depth, or the code of what is out of limits: 3, then 10.
-pub fn sine(x: u32, depth: u32) -> SineBounds
-    ensures { λ r. ⌜ r ≡ sineRule x depth ⌝ }
+// What an entry is asked about, or the code of what is out of limits: 3, then 10.
+pub fn ask(x: u32, depth: u32) -> Asked
+    ensures { λ r. ⌜ r ≡ askedFor x depth ⌝ }
 {
     let made = Depth::new(depth);
-    let asked = Angle::new(x);
-    let code = codes::earlier(made.code, asked.code);
+    let sized = Angle::new(x);
+    let code = codes::earlier(made.code, sized.code);
     if code != codes::DONE {
-        return SineBounds { code, lo: 0, hi: 0 };
+        return Asked {
+            code,
+            angle: Angle { units: 0 },
+            depth: Depth { pairs: 0 },
+        };
     }
-    let d = made.depth;
-    let angle = asked.angle;
-    sine_of(angle, d)
+    let depth = made.depth;
+    let angle = sized.angle;
+    Asked { code, angle, depth }
+}
+
+// R16: Lo and Hi of an angle of x units at a depth, or the code of what is out of limits.
+pub fn sine(x: u32, depth: u32) -> Bounds
+    ensures { λ r. ⌜ r ≡ sineRule x depth ⌝ }
+{
+    let q = ask(x, depth);
+    let code = q.code;
+    if code != codes::DONE {
+        return Bounds { code, lo: 0, hi: 0 };
+    }
+    unbiased_bounds(bounds_at(q.angle, q.depth))
 }

@@ -10,7 +10,7 @@ use Rattle.series.specs.Walk.{walk}
 use Rattle.series.proofs.CodeRange.{sine-in-range}
 use Rattle.series.proofs.CodePair.{pair-fits, paired}
 use Rattle.series.proofs.CodeWalk.{begins}
-use Rattle.series.proofs.CodeStop.{at-depth, at-spent}
+use Rattle.series.proofs.CodeStop.{at-depth, at-spent, spent-by}
 use Rattle.series.proofs.bounds_at.Statement.{statement}
 use Rattle.series.proofs.bounds_at.Tie as tie
 
@@ -76,28 +76,28 @@ returns c =
     let w = c .before .before in
     let some = call-1 w .pre .1 .some in
     let e = after-1 w in
-    c .best .ensures ∙ ⊎-elim (λ t. at-depth (t .taken) e) (λ p. at-spent (p .1 .taken) (omega arith) (lit≤ tt) e) (c .before .if1 .came)
+    c .best .ensures ∙ ⊎-elim (λ t. at-depth sine (t .taken) e) (λ p. at-spent sine (spent-by (p .1 .taken) (lit≤ tt)) (lit≤ tt) (omega arith) e) (c .before .if1 .came)
 
 returns-2 : tie.Need-returns-2
 returns-2 c =
     let w = c .before .before in
     let some = call-2 w .pre .1 .some in
     let e = after-2 w in
-    c .best2 .ensures ∙ ⊎-elim (λ t. at-depth (t .taken) e) (λ p. at-spent (p .1 .taken) (omega arith) (lit≤ tt) e) (c .before .if3 .came)
+    c .best2 .ensures ∙ ⊎-elim (λ t. at-depth sine (t .taken) e) (λ p. at-spent sine (spent-by (p .1 .taken) (lit≤ tt)) (lit≤ tt) (omega arith) e) (c .before .if3 .came)
 
 returns-3 : tie.Need-returns-3
 returns-3 c =
     let w = c .before .before in
     let some = call-3 w .pre .1 .some in
     let e = after-3 w in
-    c .best3 .ensures ∙ ⊎-elim (λ t. at-depth (t .taken) e) (λ p. at-spent (p .1 .taken) (omega arith) (lit≤ tt) e) (c .before .if5 .came)
+    c .best3 .ensures ∙ ⊎-elim (λ t. at-depth sine (t .taken) e) (λ p. at-spent sine (spent-by (p .1 .taken) (lit≤ tt)) (lit≤ tt) (omega arith) e) (c .before .if5 .came)
 
 returns-4 : tie.Need-returns-4
 returns-4 c =
     let w = c .before .before in
     let some = call-4 w .pre .1 .some in
     let e = after-4 w in
-    c .best4 .ensures ∙ ⊎-elim (λ t. at-depth (t .taken) e) (λ p. at-spent (p .1 .taken) (omega arith) (lit≤ tt) e) (c .before .if7 .came)
+    c .best4 .ensures ∙ ⊎-elim (λ t. at-depth sine (t .taken) e) (λ p. at-spent sine (spent-by (p .1 .taken) (lit≤ tt)) (lit≤ tt) (omega arith) e) (c .before .if7 .came)
 
 returns-5 : tie.Need-returns-5
 returns-5 c =
@@ -108,7 +108,7 @@ returns-5 c =
     let one = two .before .before .before in
     let depth = call-5 w .pre .1 in
     c .best5 .ensures
-    ∙ at-depth (omega (arith, depth .some, depth .few, one .if1 .left, two .if3 .left, three .if5 .left, four .if7 .left)) (after-5 w)
+    ∙ at-depth sine (omega (arith, depth .some, depth .few, one .if1 .left, two .if3 .left, three .if5 .left, four .if7 .left)) (after-5 w)
 
 pub bounds-at-spec : {M : Type 1} → statement M
 bounds-at-spec =
