@@ -8,9 +8,9 @@ use Rattle.series.specs.Terms.{Series, Q+, l, u}
 use Rattle.series.specs.Bounds.{rawLow, rawHigh, greatestLow, leastHigh}
 use Rattle.series.specs.Sine.{sine, Lo, Hi}
 use Rattle.series.specs.Walk.{term-limit, TermFits}
-use Rattle.series.proofs.TermLimits.{Divides, l-le-u}
+use Rattle.series.proofs.TermLimits.{Divides, l-le-u, Q-within}
 use Rattle.series.proofs.BoundLimits.{Bounded, raw-low-within, raw-high-within, greatest-within, least-within}
-use Rattle.series.proofs.SineTerms.{sine-divides, Q-within, u-within}
+use Rattle.series.proofs.SineTerms.{sine-divides, u-within}
 
 -- all terms of s at X are small, and up to the last one made each can be made into the next
 pub record InRange (s : Series) (X : ℕ) : Type 0 where
@@ -42,20 +42,25 @@ module _ (s : Series) (X : ℕ) (r : InRange s X) where
     pub least-in : InBounds (leastHigh s X d)
     least-in = least-within s X term-limit l-limit (r .terms) d 6 (omega arith) (omega arith)
 
-pub sine-in-range : (X : ℕ) → X ≤ T-units → InRange sine X
-sine-in-range X h =
+-- a series is in range at every angle tested where its terms are within 2^31 and its divisors within 2^16
+pub in-range : (s : Series) → Divides s → ((k : ℕ) → k < 2 * depths → s .divisor (suc k) ≤ 65536) →
+    (X : ℕ) → X ≤ T-units → ((k : ℕ) → u s X k ≤ term-limit) → InRange s X
+in-range s div few X h within =
     record {
-      divides = sine-divides;
-      terms = u-within X h;
-      fits = λ k few.
-          let m : k ≤ 9 = omega arith in
+      divides = div;
+      terms = within;
+      fits = λ k more.
           record {
-            term = u-within X h k;
+            term = within k;
             square = omega (arith, Q-within X h);
-            divides = sine-divides k;
-            little = omega (arith, mul-le-mul m m);
+            divides = div k;
+            little = few k more;
           };
     }
+
+pub sine-in-range : (X : ℕ) → X ≤ T-units → InRange sine X
+sine-in-range X h =
+    in-range sine sine-divides (λ k more. let m : k ≤ 9 = omega arith in omega (arith, mul-le-mul m m)) X h (u-within X h)
 
 pub Lo-within : (X d : ℕ) → X ≤ T-units → d ≤ depths → InBounds (Lo X d)
 Lo-within X d x = greatest-in sine X (sine-in-range X x) d

@@ -4,7 +4,7 @@ use mathlib.Core.Bool.{Bool, true, false, not}
 use Prim.Native.Nat.{ℕ, zero, suc, _+_, _-_, _*_, _≤_}
 use native.Mathlib.Omega.{arith}
 use native.Mathlib.Nat.{le-trans, mul-le-mul, mul-le-mul-left}
-use lib.Dec.{lit≤}
+use lib.Dec.{T, leb, lit≤}
 use lib.IntN.{ℤ, pos, _*ℤ_}
 use lib.Signed.{_≤ℤ_}
 use Rattle.grid.specs.Grid.{T-units}
@@ -99,17 +99,21 @@ module _ (s : Series) (X : ℕ) (fall : TermsFall s X) where
   even-never-rises i k h =
       rw (double i) at (far (2 * i) (k - i) (2 * k) (omega arith))
 
--- sine's divisors from the second on are at least 20
-pub sine-fall : (X : ℕ) → X * X ≤ 72057594037927936 * 20 → TermsFall sine X
+-- by the least divisor from the second on
+pub fall-by : (s : Series) (n : ℕ) → ((k : ℕ) → n ≤ s .divisor (suc (suc k))) → (X : ℕ) → X * X ≤ 72057594037927936 * n → TermsFall s X
 unfolding ratio
-sine-fall X h k = le-trans h (mul-le-mul-left 72057594037927936 (from-20 k))
+fall-by s n from X h k = le-trans h (mul-le-mul-left 72057594037927936 (from k))
 
--- x^2 is at most 20 at every angle tested
-pub within-20 : (X : ℕ) → X ≤ T-units → X * X ≤ 72057594037927936 * 20
-within-20 X h = le-trans (mul-le-mul h h) (lit≤ {m = T-units * T-units} {n = 72057594037927936 * 20} tt)
+-- which is 20 for sine
+pub sine-fall : (X : ℕ) → X * X ≤ 72057594037927936 * 20 → TermsFall sine X
+sine-fall = fall-by sine 20 from-20
+
+-- x^2 at every angle tested, by x^2 at T
+pub square-within : (X n : ℕ) → X ≤ T-units → T (leb (T-units * T-units) (72057594037927936 * n)) → X * X ≤ 72057594037927936 * n
+square-within X n h t = le-trans (mul-le-mul h h) (lit≤ {m = T-units * T-units} {n = 72057594037927936 * n} t)
 
 pub T-fall : (X : ℕ) → X ≤ T-units → TermsFall sine X
-T-fall X h = sine-fall X (within-20 X h)
+T-fall X h = sine-fall X (square-within X 20 h tt)
 
 -- R9: the same of sine, while x^2 <= 20
 pub sine-odd-never-falls : (X i k : ℕ) → X * X ≤ 72057594037927936 * 20 → i ≤ k →

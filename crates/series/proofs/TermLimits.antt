@@ -2,8 +2,8 @@
 use Prim.Native.Nat.{ℕ, zero, suc, _*_, _≤_, _<_}
 use native.Mathlib.Omega.{arith}
 use native.Mathlib.Nat.{le-trans, mul-le-mul, mul-le-mul-left, mul-pos}
-use lib.Dec.{lit<}
-use Rattle.grid.specs.Grid.{one}
+use lib.Dec.{T, leb, lit<, lit≤}
+use Rattle.grid.specs.Grid.{one, T-units}
 use Rattle.whole.proofs.Round.{down-mono, up-mono, down-le-up, up-le}
 use Rattle.series.specs.Terms.{Series, Q-, Q+, l, u}
 use Rattle.series.specs.Bounds.{evens, odds}
@@ -61,6 +61,22 @@ module _ (s : Series) (div : Divides s) where
   u-limit X B a b h zero = a
   u-limit X B a b h (suc zero) = b
   u-limit X B a b h (suc (suc k)) = le-trans (u-falls X (suc k) (h k)) (u-limit X B a b h (suc k))
+
+-- x^2 is at most 10 at every angle tested
+pub Q-within : (X : ℕ) → X ≤ T-units → Q+ X ≤ 10 * one
+Q-within X h = le-trans (Q-mono h) (lit≤ tt)
+
+-- the greatest angle tested gives limits for every angle, where term 0 doesn't fall as the angle grows
+module _ (s : Series) (div : Divides s) (grows : (X Y : ℕ) → X ≤ Y → s .term0 X ≤ s .term0 Y) where
+  pub at-T : (X k B : ℕ) → X ≤ T-units → T (leb (u s T-units k) B) → u s X k ≤ B
+  at-T X k B h t = le-trans (u-mono s div (grows X T-units h) h k) (lit≤ t)
+
+  -- what terms 0 and 1 are within at T is a limit for every term, where the divisors after the first are at least 10
+  pub terms-within : (B : ℕ) → T (leb (u s T-units 0) B) → T (leb (u s T-units 1) B) → ((k : ℕ) → 10 ≤ s .divisor (suc (suc k))) →
+      (X : ℕ) → X ≤ T-units → (k : ℕ) → u s X k ≤ B
+  unfolding u
+  terms-within B a b from X h =
+      u-limit s div X B (at-T X 0 B h a) (at-T X 1 B h b) (λ k. omega (arith, Q-within X h, mul-le-mul-left one (from k)))
 
 -- n terms, each within a limit
 pub evens-limit : (f : ℕ → ℕ) (B : ℕ) → ((k : ℕ) → f k ≤ B) → (n : ℕ) → evens f n ≤ n * B

@@ -12,8 +12,8 @@ use Rattle.whole.proofs.Round.{lt-down, up-lt, up-le}
 use Rattle.series.specs.Terms.{Series, Q-, Q+, l, u}
 use Rattle.series.specs.Bounds.{evens, odds, rawLow, rawHigh, greatestLow, leastHigh}
 use Rattle.series.specs.Sine.{sine, Lo, Hi}
-use Rattle.series.proofs.TermLimits.{Divides, unit-pos}
-use Rattle.series.proofs.SineTerms.{sine-divides, from-20, Q-within, l-within, u10-within}
+use Rattle.series.proofs.TermLimits.{Divides, unit-pos, Q-within}
+use Rattle.series.proofs.SineTerms.{sine-divides, from-20, l-within, u10-within}
 use Rattle.series.proofs.Deeper.{raw-le-greatest, least-le-raw}
 
 Q-gap : (X : ℕ) → Q+ X ≤ Q- X + 1
@@ -44,28 +44,35 @@ module _ (s : Series) (div : Divides s) (X : ℕ) where
   gap start room (suc zero) = gap-step 0 0 (omega arith) (omega arith)
   gap start room (suc (suc k)) = gap-step 3 (suc k) (gap start room (suc k)) (room k)
 
--- terms that lie g apart have sums of n terms that lie n g apart
-evens-gap : (f h : ℕ → ℕ) (g : ℕ) → ((k : ℕ) → f k ≤ h k + g) → (n : ℕ) → evens f n ≤ evens h n + n * g
+-- terms k that lie g k apart have sums that lie the sum of these apart
+evens-gap : (f h g : ℕ → ℕ) → ((k : ℕ) → f k ≤ h k + g k) → (n : ℕ) → evens f n ≤ evens h n + evens g n
 unfolding evens
 evens-gap f h g near zero = omega arith
 evens-gap f h g near (suc n) = omega (arith, evens-gap f h g near n, near (2 * n))
 
-odds-gap : (f h : ℕ → ℕ) (g : ℕ) → ((k : ℕ) → f k ≤ h k + g) → (n : ℕ) → odds f n ≤ odds h n + n * g
+odds-gap : (f h g : ℕ → ℕ) → ((k : ℕ) → f k ≤ h k + g k) → (n : ℕ) → odds f n ≤ odds h n + odds g n
 unfolding odds
 odds-gap f h g near zero = omega arith
 odds-gap f h g near (suc n) = omega (arith, odds-gap f h g near n, near (suc (2 * n)))
 
 -- the width at any depth: the gaps of its pairs of terms and the last term
-pub width : (s : Series) (X g d : ℕ) → ((k : ℕ) → u s X k ≤ l s X k + g) →
-    leastHigh s X (suc d) ≤ℤ (greatestLow s X (suc d) +ℤ pos (2 * suc d * g + u s X (2 * suc d)))
+pub width : (s : Series) (X : ℕ) (g : ℕ → ℕ) (d : ℕ) → ((k : ℕ) → u s X k ≤ l s X k + g k) →
+    leastHigh s X (suc d) ≤ℤ (greatestLow s X (suc d) +ℤ pos (evens g (suc d) + odds g (suc d) + u s X (2 * suc d)))
 unfolding rawLow rawHigh evens
 width s X g d near =
     let best = own (greatestLow s X (suc d)) in
     let least = own (leastHigh s X (suc d)) in
     let low = le-parts (is-sub (evens (l s X) (suc d)) (odds (u s X) (suc d))) best .0 (raw-le-greatest s X (suc d) (omega arith)) in
     let high = le-parts least (is-sub (evens (u s X) (suc (suc d))) (odds (l s X) (suc d))) .0 (least-le-raw s X (suc d) (omega arith)) in
-    le-parts least (is-add best (is-pos (2 * suc d * g + u s X (2 * suc d)))) .1
+    le-parts least (is-add best (is-pos (evens g (suc d) + odds g (suc d) + u s X (2 * suc d)))) .1
     (omega (arith, evens-gap (u s X) (l s X) g near (suc d), odds-gap (u s X) (l s X) g near (suc d)))
+
+-- the width at depth 5, by what the gaps sum to there and a limit for the last term
+pub within-5 : (s : Series) (X w : ℕ) (g : ℕ → ℕ) → ((k : ℕ) → u s X k ≤ l s X k + g k) → evens g 5 + odds g 5 + u s X 10 ≤ w →
+    leastHigh s X 5 ≤ℤ (greatestLow s X 5 +ℤ pos w)
+within-5 s X w g near few =
+    let lo = own (greatestLow s X 5) in
+    ≤ℤ-trans (width s X g 4 near) (le-parts (is-add lo (is-pos (evens g 5 + odds g 5 + u s X 10))) (is-add lo (is-pos w)) .1 (omega arith))
 
 -- ---- sine, for the angles tested
 
@@ -75,8 +82,5 @@ sine-gap X h =
     (λ k. omega (arith, Q-within X h, l-within X h (suc k), mul-le-mul-left one (from-20 k)))
 
 pub width-5 : (X : ℕ) → X ≤ T-units → Hi X 5 ≤ℤ (Lo X 5 +ℤ pos 32)
-width-5 X h =
-    let lo = own (Lo X 5) in
-    let last = u10-within X h in
-    ≤ℤ-trans (width sine X 3 4 (sine-gap X h))
-    (le-parts (is-add lo (is-pos (30 + u sine X 10))) (is-add lo (is-pos 32)) .1 (omega arith))
+unfolding evens odds
+width-5 X h = within-5 sine X 32 (λ k. 3) (sine-gap X h) (omega (arith, u10-within X h))
