@@ -16,7 +16,7 @@ use Rattle.series.proofs.TermLimits.{Divides, unit-pos, Q-within}
 use Rattle.series.proofs.SineTerms.{sine-divides, from-20, l-within, u10-within}
 use Rattle.series.proofs.Deeper.{raw-le-greatest, least-le-raw}
 
-Q-gap : (X : ℕ) → Q+ X ≤ Q- X + 1
+pub Q-gap : (X : ℕ) → Q+ X ≤ Q- X + 1
 Q-gap X = up-le (Q- X + 1) (X * X) one (lit< tt) (omega (arith, lt-down (X * X) one (lit< tt)))
 
 -- two terms made alike from terms that lie g apart, p from b and q from a, with squares that lie 1 apart
@@ -28,7 +28,7 @@ step a b c d g w p q low high near square room =
 
 module _ (s : Series) (div : Divides s) (X : ℕ) where
   -- from term k, g apart, to the next
-  gap-step : (g k : ℕ) → u s X k ≤ l s X k + g → l s X k + g * Q+ X ≤ 2 * (one * s .divisor (suc k)) →
+  pub gap-step : (g k : ℕ) → u s X k ≤ l s X k + g → l s X k + g * Q+ X ≤ 2 * (one * s .divisor (suc k)) →
       u s X (suc k) ≤ l s X (suc k) + 3
   unfolding l u
   gap-step g k near room =

@@ -34,7 +34,7 @@ start c = c .before .before .before .before .before .before
 
 -- after a turn's step the walk has come one pair further
 next : (c : tie.After-further Inv-loop μ-loop) → c .further .result ≡ walk sine (start c .args .x .units) (suc (c .before .loop .w .pairs))
-next c = onward _ _ _ (c .before .loop .inv .0) _ (c .further .ensures)
+next c = onward _ _ _ _ (c .before .loop .inv .0) _ (c .further .ensures)
 
 pairs-is : (c : tie.After-further Inv-loop μ-loop) → c .further .result .pairs ≡ suc (c .before .loop .w .pairs)
 pairs-is c = ap (λ (t : Walk). t .pairs) (next c)
@@ -99,11 +99,11 @@ loop-holds : tie.Need-loop-holds Inv-loop μ-loop
 loop-holds c =
     let e = c .begin .ensures ∙ begins sine _ in
     let f = ap (λ (t : Walk). t .pairs) e in
-    (own-pairs _ _ _ e, omega (arith, c .before .before .before .before .pre .depth .some), λ h. absurd (let z : ⊥ = omega arith in z))
+    (own-pairs _ _ _ _ e, omega (arith, c .before .before .before .before .pre .depth .some), λ h. absurd (let z : ⊥ = omega arith in z))
 
 further-requires : tie.Need-further-requires Inv-loop μ-loop
 further-requires c κs =
-    let p = c .before .before .before .before .before .pre in unfinished _ _ _ (c .loop .inv .0) (p .angle .top) (omega (arith, c .loop .inv .1, p .depth .few))
+    let p = c .before .before .before .before .before .pre in unfinished _ _ _ _ (c .loop .inv .0) (p .angle .top) (omega (arith, c .loop .inv .1, p .depth .few))
 
 at-depth-requires : tie.Need-at-depth-requires Inv-loop μ-loop
 at-depth-requires c κs = corners-in c
@@ -168,7 +168,7 @@ loop-again c =
     let o = c .before .before .before .before in
     let f = o .before .before in
     let k = pairs-is f in
-    (own-pairs _ _ _ (next f), omega (arith, f .before .loop .inv .1, c .before .before .if3 .left), λ h. unsettled o)
+    (own-pairs _ _ _ _ (next f), omega (arith, f .before .loop .inv .1, c .before .before .if3 .left), λ h. unsettled o)
 
 pub settle-spec : {M : Type 1} → statement M
 settle-spec =

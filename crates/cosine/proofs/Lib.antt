@@ -1,0 +1,2 @@
+pub mod CosineTerms
+pub mod CosineLaws
