@@ -1,7 +1,7 @@
 -- The codes, their order, and how a call is answered by its checks, R5 to R7.
 use Prim.Native.Nat.{ℕ}
 use mathlib.Core.Path.{_≡_}
-use mathlib.Core.Bool.{Bool, true, false, cond}
+use mathlib.Core.Bool.{Bool, true, false, not, _||_, cond}
 use mathlib.Core.List.{List, [], _∷_}
 use lib.Dec.{ltb, eqb}
 use lib.IntN.{ℤ, natAbs}
@@ -11,7 +11,7 @@ use Rattle.grid.specs.Grid.{one, H-units, T-units, depths, N-units}
 -- R5: what a code says, in the order of the numbers
 pub data Code : Type 0 where
   done bad-m bad-a bad-depth bad-estimate bad-n : Code
-  no-upper-end bad-length short-answers bad-reserved bad-x : Code
+  no-upper-end bad-length short-answers bad-reserved bad-x bad-method : Code
 
 -- R5: the number of a code
 abbrev pub number : Code → ℕ
@@ -26,12 +26,13 @@ number bad-length = 7
 number short-answers = 8
 number bad-reserved = 9
 number bad-x = 10
+number bad-method = 21
 
 -- R6: the order in which an entry has the checks of its own inputs
 unfoldable pub order : List Code
 order =
     bad-length ∷ short-answers ∷ bad-reserved ∷ bad-m ∷ bad-a ∷ bad-depth
-    ∷ bad-x ∷ bad-estimate ∷ bad-n ∷ no-upper-end ∷ []
+    ∷ bad-x ∷ bad-estimate ∷ bad-n ∷ no-upper-end ∷ bad-method ∷ []
 
 -- R5: a code's condition, computed from one call's input, beside the code
 pub record Check : Type 0 where
@@ -70,6 +71,10 @@ signed-x-check x = record { fails = or (negative x) (ltb T-units (natAbs x)); co
 -- R5: code 5, a tolerance beyond its limit
 abbrev pub n-check : ℕ → Check
 n-check n = limit-check n N-units bad-n
+
+-- R5: code 21, a method other than 1 and 2
+abbrev pub method-check : ℕ → Check
+method-check method = record { fails = not (eqb method 1 || eqb method 2); code = bad-method }
 
 -- R5: none of a call's checks fails
 abbrev pub Passed : List Check → Type 0

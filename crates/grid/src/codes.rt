@@ -1,4 +1,4 @@
-// R5: the code of each refusal. R6: of those that apply the first of 7, 8, 9, 1, 2, 3, 10, 4, 5, 6 is answered.
+// R5: the code of each refusal. R6: of those that apply the first of 7, 8, 9, 1, 2, 3, 10, 4, 5, 6, 21 is answered.
 ghost use mathlib.Core.Path.{_≡_};
 ghost use mathlib.Core.Bool.{cond};
 ghost use lib.Dec.{ltb};
@@ -25,6 +25,8 @@ pub const SHORT_ANSWERS: u32 = 8;
 pub const BAD_RESERVED: u32 = 9;
 
 pub const BAD_X: u32 = 10;
+
+pub const BAD_METHOD: u32 = 21;
 
 // The code of a number above its limit, else DONE.
 pub fn limited(n: u32, limit: u32, code: u32) -> u32

@@ -95,7 +95,7 @@ impl Eccentricity {
     }
 }
 
-// How many pairs of sine terms are used: 1 to 5.
+// How many pairs of terms are used: 1 to 5.
 pub struct Depth {
     pub pairs: u32,
 }

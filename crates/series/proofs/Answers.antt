@@ -1,17 +1,17 @@
 -- How an entry that bounds a series refuses, and what it answers where its checks pass; of any series in range. Assumes nothing.
 use mathlib.Core.Path.{_≡_, refl, ap, ap₂, subst, sym, _∙_}
 use Prim.Native.Nat.{ℕ, _≤_}
-use lib.IntN.{ℤ, subℕ}
+use borrow.Author.Tests.{le-ltb}
+use lib.IntN.{ℤ}
 use Rattle.grid.specs.Grid.{T-units, depths}
 use Rattle.grid.specs.Codes.{number, done}
 use Rattle.grid.specs.Limits.{AngleIn, DepthIn}
-use Rattle.grid.proofs.Fits.{depth-fits}
+use Rattle.grid.proofs.Fits.{depth-fits, depth-passes}
 use Rattle.grid.proofs.Made.{angle-in}
 use Rattle.grid.proofs.Refuses.{Says, Makes, makes}
 use Rattle.series.specs.Terms.{Series}
-use Rattle.series.specs.Bounds.{greatestLow, leastHigh}
 use Rattle.series.specs.Entry.{boundsChecks, noBounds, boundsOf, boundsRule}
-use Rattle.series.specs.Walk.{bias, biased, biasedBounds}
+use Rattle.series.specs.Walk.{biasedBounds}
 use Rattle.series.specs.Asked.{askedWith, askedFor, Small, unbiasedBounds}
 use Rattle.series.specs.declared.Asked.{Asked}
 use Rattle.series.specs.declared.Biased.{Biased}
@@ -21,6 +21,13 @@ use Rattle.series.proofs.CodeBias.{biased-small, unbiased-is}
 
 pub bounded : (s : Series) (x d : ℕ) → Makes (boundsChecks x d) (λ (r : Bounds). r .code) noBounds (boundsOf s x d)
 bounded s x d = makes refl (λ k. refl) tt
+
+-- which is what it answers within the limits
+pub bounds-within : (s : Series) (x d : ℕ) → x ≤ T-units → 1 ≤ d → d ≤ depths → boundsRule s x d ≡ boundsOf s x d
+unfolding boundsRule
+bounds-within s x d h some few =
+    let m = bounded s x d in
+    m .says _ refl .made (m .demand .passed .1 (depth-passes d some few, (le-ltb T-units x h, tt)))
 
 pub askings : (x d : ℕ) → Makes (boundsChecks x d) (λ (r : Asked). r .code) (λ k. askedWith k 0 0) (askedWith 0 x d)
 askings x d = makes refl (λ k. refl) tt

@@ -17,7 +17,7 @@ pub struct CodedUnits {
 }
 
 // 2^28, the units in one radian.
-const RADIAN: f64 = Eccentricity::ONE as f64;
+pub const RADIAN: f64 = Eccentricity::ONE as f64;
 
 // R59: a double, or on the mirror its negative.
 pub fn mirror(value: f64, mirrored: bool) -> f64

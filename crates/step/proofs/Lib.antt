@@ -1,0 +1,5 @@
+pub mod Answered
+pub mod CodeFlat
+pub mod CodeJudge
+pub mod CodePlace
+pub mod CodeUnits

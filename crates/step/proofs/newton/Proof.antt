@@ -1,0 +1,18 @@
+-- `step::newton` meets its contract: flat, or the method's own step. Assumes nothing.
+use mathlib.Core.Path.{sym, ap, _∙_}
+use borrow.Author.Needs.{needs}
+use lib.Ieee.{ofBits}
+use Rattle.step.specs.declared.Taken.the-variants.{Newton}
+use Rattle.step.proofs.newton.Statement.{statement}
+use Rattle.step.proofs.newton.Tie as tie
+
+returns : tie.Need-returns
+unfolding ofBits
+returns c = rw (sym (c .before .flat .ensures) ∙ c .if1 .taken)
+
+returns-2 : tie.Need-returns-2
+unfolding ofBits
+returns-2 c = rw (sym (c .before .before .flat .ensures) ∙ c .before .if1 .left) (ap Newton (c .handed .ensures))
+
+pub newton-spec : {M : Type 1} → statement M
+newton-spec = tie.close (tie.spec (λ c κs. search needs) (λ c κs. search needs) returns returns-2)
