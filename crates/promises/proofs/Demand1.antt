@@ -11,8 +11,8 @@ use Rattle.grid.specs.Codes.{order, a-check, depth-check, x-check, signed-x-che
 use Rattle.grid.specs.Refuses.{Refuses, inOrder, all}
 use Rattle.grid.proofs.Refuses.{refuses}
 use Rattle.grid.proofs.Made.{angles, signed-angles, eccentricities, depths-made}
-use Rattle.series.specs.Entry.{sineChecks, sineRule}
-use Rattle.series.proofs.SineRefuses.{sines}
+use Rattle.series.specs.Entry.{boundsChecks, sineRule}
+use Rattle.series.proofs.Answers.{bounded}
 use Rattle.units.specs.Units.{estimate-check}
 use Rattle.units.proofs.Made.{estimates}
 use Rattle.orbit.specs.Given.{Given, checksOf, problemChecks}
@@ -54,17 +54,17 @@ bytes claims i =
 
 in-order : (x a d n i : ℕ) (z : ℤ) (g : Given) (f : Float) (claims answers : List ℕ)
     → T (all (inOrder order)
-    (sineChecks x d ∷ endChecks z g d ∷ enclosureChecks g d ∷ checksOf g ∷ problemChecks g d
+    (boundsChecks x d ∷ endChecks z g d ∷ enclosureChecks g d ∷ checksOf g ∷ problemChecks g d
     ∷ claimChecks (claimOf g f n d) ∷ settleChecks g f n ∷ distanceChecks g f ∷ batchChecks twenty (length claims) (length answers)
     ∷ recordChecks twenty claims i ∷ (x-check x ∷ []) ∷ (signed-x-check z ∷ []) ∷ (a-check a ∷ []) ∷ (depth-check d ∷ []) ∷ (estimate-check f ∷ []) ∷ []))
 unfolding order
 in-order x a d n i z g f claims answers = tt
 
 pub demand-1 : Demand1
-unfolding sineRule proposalRule judgeRule settleRule distanceRule batchRule order
+unfolding boundsRule proposalRule judgeRule settleRule distanceRule batchRule order
 demand-1 =
     record {
-      sine = λ x d. sines x d .demand;
+      sine = λ x d. bounded sine x d .demand;
       lower-end = λ x g d. ends false x g d .demand;
       upper-end = λ x g d. ends true x g d .demand;
       enclose = λ g d. enclosures g d .demand;

@@ -14,8 +14,8 @@ use Rattle.series.proofs.Factorial.{den-is, num-is}
 use Rattle.series.proofs.Falling.{sine-odd-never-falls, sine-even-never-rises}
 use Rattle.series.specs.Bounds.{Spent}
 use Rattle.series.specs.Sine.{sine}
-use Rattle.series.specs.Entry.{sineRefused, sineBounds, sineRule}
-use Rattle.series.specs.declared.SineBounds.{SineBounds}
+use Rattle.series.specs.Entry.{noBounds, boundsOf, boundsRule, sineRule}
+use Rattle.series.specs.declared.Bounds.{Bounds}
 use Rattle.series.proofs.Deeper.{Lo-rises, Hi-falls}
 use Rattle.series.proofs.Stays.{low-stays, high-stays, spent-angles}
 use Rattle.orbit.specs.Mirror.{mirror, mirrorEnd}
@@ -47,10 +47,10 @@ same-check d e i j k m =
     ap (λ (t : Bool). record { fails = t; code = bad-depth }) (depth-passes d i j ∙ sym (depth-passes e k m))
 
 spent-sine : (X n d : ℕ) → Spent sine X n → 1 ≤ n → n ≤ d → d ≤ depths → sineRule X d ≡ sineRule X n
-unfolding sineRule
+unfolding boundsRule
 spent-sine X n d h some k few =
-    let e : sineBounds X d ≡ sineBounds X n = ap₂ (λ (low high : ℤ). record { code = number done; lo = low; hi = high }) (low-stays h some d k) (high-stays h some d k) in
-    ap₂ (λ (c : Check) (r : SineBounds). checked (c ∷ x-check X ∷ []) sineRefused r)
+    let e : boundsOf sine X d ≡ boundsOf sine X n = ap₂ (λ (low high : ℤ). record { code = number done; lo = low; hi = high }) (low-stays h some d k) (high-stays h some d k) in
+    ap₂ (λ (c : Check) (r : Bounds). checked (c ∷ x-check X ∷ []) noBounds r)
     (same-check d n (omega arith) few some (omega arith)) e
 
 sums : Sums

@@ -6,7 +6,7 @@ use lib.ListN.{length}
 use Rattle.grid.proofs.FirstCode.{goes}
 use Rattle.grid.proofs.Made.{angles, signed-angles, eccentricities, depths-made}
 use Rattle.series.specs.Entry.{sineRule}
-use Rattle.series.proofs.SineRefuses.{sines}
+use Rattle.series.proofs.Answers.{bounded}
 use Rattle.units.proofs.Made.{estimates}
 use Rattle.orbit.proofs.Posed.{cells, problems}
 use Rattle.ends.proofs.Answered.{ends}
@@ -30,10 +30,10 @@ use Rattle.promises.specs.Rules.{Rules}
 use Rattle.promises.proofs.Demand1.{demand-1}
 
 pub rules : Rules
-unfolding sineRule proposalRule judgeRule settleRule distanceRule batchRule answerAt
+unfolding boundsRule proposalRule judgeRule settleRule distanceRule batchRule answerAt
 rules =
     record {
-      sine = λ x d. sines x d .says _ refl .made;
+      sine = λ x d. bounded sine x d .says _ refl .made;
       lower-end = λ x g d. ends false x g d .says _ refl .made;
       upper-end = λ x g d. ends true x g d .says _ refl .made;
       enclose = λ g d. enclosures g d .says _ refl .made;

@@ -29,11 +29,11 @@ p and q = (p, q)
 
 -- X = 0, at any depth
 at-0 : (d : ℕ) → 1 ≤ d → d ≤ depths → Bounds 0 d 0 0
-unfolding sineRule
+unfolding boundsRule
 at-0 d some few = simp (le-ltb d 1 some, le-ltb depths d few, Lo-zero d, Hi-zero d)
 
 list : AllHold starred
-unfolding starred sineRule l u evens odds rawLow rawHigh greatestLow leastHigh belowBy aboveBy halve turns foundLower foundUpper offRange ofBits
+unfolding starred boundsRule l u evens odds rawLow rawHigh greatestLow leastHigh belowBy aboveBy halve turns foundLower foundUpper offRange ofBits
 list =
     at-0 and refl and refl and refl and (refl, refl) and refl and refl and refl and refl
     and refl and refl and refl and refl and refl and refl and refl and refl and refl and refl and refl and tt
@@ -56,5 +56,5 @@ beside =
     and (refl, refl) and (refl, refl) and tt
 
 pub starred-met : Starred
-unfolding sineRule l u evens odds rawLow rawHigh greatestLow leastHigh
+unfolding boundsRule l u evens odds rawLow rawHigh greatestLow leastHigh
 starred-met = record { list = list; beside = beside; below-zero = refl; circle = circle }

@@ -14,8 +14,8 @@ use Rattle.grid.specs.Make.{angleWith, codedAngle, codedSigned, eccentricityWit
 use Rattle.grid.specs.declared.CodedAngle.{CodedAngle}
 use Rattle.grid.specs.declared.CodedEccentricity.{CodedEccentricity}
 use Rattle.grid.specs.declared.CodedDepth.{CodedDepth}
-use Rattle.series.specs.Entry.{sineChecks, sineRefused, sineRule}
-use Rattle.series.specs.declared.SineBounds.{SineBounds}
+use Rattle.series.specs.Entry.{boundsChecks, noBounds, sineRule}
+use Rattle.series.specs.declared.Bounds.{Bounds}
 use Rattle.units.specs.Units.{estimate-check, zerosWith, codedEstimate}
 use Rattle.units.specs.declared.CodedUnits.{CodedUnits}
 use Rattle.orbit.specs.Given.{Given, checksOf, noCell, codedCell, problemChecks, noProblem, codedProblem}
@@ -54,7 +54,7 @@ abbrev pub batchOf : List ℕ → List ℕ → Batch
 batchOf claims answers = batchRule twenty (length claims) (length answers)
 
 pub record Demand1 : Type 0 where
-  pub sine : (x d : ℕ) → Refuses (sineChecks x d) (λ (r : SineBounds). r .code) sineRefused (sineRule x d)
+  pub sine : (x d : ℕ) → Refuses (boundsChecks x d) (λ (r : Bounds). r .code) noBounds (sineRule x d)
   pub lower-end : (x : ℤ) (g : Given) (d : ℕ) → Refuses (endChecks x g d) (λ (r : End). r .code) endRefused (lowerRule x g d)
   pub upper-end : (x : ℤ) (g : Given) (d : ℕ) → Refuses (endChecks x g d) (λ (r : End). r .code) endRefused (upperRule x g d)
   pub enclose : (g : Given) (d : ℕ) → Refuses (enclosureChecks g d) (λ (r : Enclosure). r .code) refusal (enclosureRule g d)
@@ -83,7 +83,7 @@ pub record Demand1 : Type 0 where
   -- R6: every list of checks is in the order
   pub in-order : (x a d n i : ℕ) (z : ℤ) (g : Given) (f : Float) (claims answers : List ℕ)
       → T (all (inOrder order)
-      (sineChecks x d ∷ endChecks z g d ∷ enclosureChecks g d ∷ checksOf g ∷ problemChecks g d
+      (boundsChecks x d ∷ endChecks z g d ∷ enclosureChecks g d ∷ checksOf g ∷ problemChecks g d
       ∷ claimChecks (claimOf g f n d) ∷ settleChecks g f n ∷ distanceChecks g f ∷ batchChecks twenty (length claims) (length answers) ∷ recordChecks twenty claims i ∷ (x-check x ∷ [])
       ∷ (signed-x-check z ∷ []) ∷ (a-check a ∷ [])
       ∷ (depth-check d ∷ []) ∷ (estimate-check f ∷ []) ∷ []))

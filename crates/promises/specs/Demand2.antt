@@ -12,7 +12,7 @@ use Rattle.grid.specs.Grid.{T-units, depths}
 use Rattle.grid.specs.Codes.{number, done}
 use Rattle.series.specs.Sine.{S9, S10, den9, den10}
 use Rattle.series.specs.Entry.{sineRule}
-use Rattle.series.specs.declared.SineBounds.{SineBounds}
+use Rattle.series.specs.declared.Bounds.{Bounds}
 use Rattle.orbit.specs.Mirror.{mirror, mirrorEnd}
 use Rattle.orbit.specs.Given.{Given, grid, mirroredOf, cellOf}
 use Rattle.ends.specs.Exact.{EndExact, ExactAt, EndSpare}
@@ -33,7 +33,7 @@ use Rattle.promises.specs.Demand1.{batchOf}
 use Rattle.promises.specs.Rules.{Rules, byteAfter}
 
 -- R14, of what `sine` returns with code 0
-pub record SineTrue (x : ℕ) (r : SineBounds) : Type 0 where
+pub record SineTrue (x : ℕ) (r : Bounds) : Type 0 where
   pub low : (r .lo *ℤ pos den9) ≤ℤ S9 x
   pub high : S10 x ≤ℤ (r .hi *ℤ pos den10)
 

@@ -20,7 +20,7 @@ use Rattle.grid.specs.declared.CodedDepth.{CodedDepth}
 use Rattle.series.specs.Walk.{spentAt}
 use Rattle.series.specs.Entry.{sineRule}
 use Rattle.series.specs.declared.Walk.{Walk}
-use Rattle.series.specs.declared.SineBounds.{SineBounds}
+use Rattle.series.specs.declared.Bounds.{Bounds}
 use Rattle.orbit.specs.Mirror as mirrors
 use Rattle.orbit.specs.Mirror.{mirrorEnd}
 use Rattle.orbit.specs.Cell.{gridCell}
@@ -68,7 +68,7 @@ pub record FileAllows (input before : List ℕ) (l : Left ℕ) : Type 0 where
   pub answers : l .answers ≡ outputIn input before
 
 pub record Unique : Type 0 where
-  pub sine : (x depth : ℕ) → OneResult (λ (r : SineBounds). r ≡ sineRule x depth)
+  pub sine : (x depth : ℕ) → OneResult (λ (r : Bounds). r ≡ sineRule x depth)
   pub lower-end : (x : ℤ) (g : Given) (depth : ℕ) → OneResult (λ (r : End). r ≡ lowerRule x g depth)
   pub upper-end : (x : ℤ) (g : Given) (depth : ℕ) → OneResult (λ (r : End). r ≡ upperRule x g depth)
   pub enclose : (g : Given) (depth : ℕ) → OneResult (λ (r : Enclosure). r ≡ enclosureRule g depth)

@@ -199,7 +199,7 @@ fn bounds_at(x: Angle, d: Depth) -> Biased
 }
 
 // The signed number that was biased.
-fn unbiased(biased: u64) -> i64
+pub fn unbiased(biased: u64) -> i64
     requires { ⌜ biased ≤ 2 * bias ⌝ }
     ensures { λ r. ⌜ r ≡ subℕ biased bias ⌝ }
 {

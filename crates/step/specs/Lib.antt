@@ -1,3 +1,4 @@
 pub mod Step
+pub mod Lows
 pub mod Entry
 pub mod Limits

@@ -15,7 +15,6 @@ use Rattle.step.specs.declared.Taken.the-variants.{Newton, Halley, Flat}
 
 infixl 20 _⊖_
 infixl 30 _⊗_ _⊘_
-
 -- R75: binary64's difference, product and quotient, each rounded once, to nearest and at a tie to even
 abbrev pub _⊖_ : Float → Float → Float
 x ⊖ y = sub binary64 x y

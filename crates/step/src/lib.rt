@@ -1,17 +1,20 @@
 // One step of Newton or Halley in doubles, from an estimate of the root of Kepler's equation, and its judging.
 ghost use mathlib.Core.Path.{_≡_};
 ghost use mathlib.Core.Bool.{cond};
+ghost use Prim.Native.Nat.{_*_, _≤_};
+ghost use lib.IntN.{subℕ};
 ghost use Rattle.grid.specs.Codes.{method-check};
-ghost use Rattle.orbit.specs.Given.{grid};
-ghost use Rattle.step.specs.Step.{localAt, flat, handedOver, newtonStep, halleyStep, stepBy};
+ghost use Rattle.series.specs.Walk.{bias};
+ghost use Rattle.step.specs.Step.{inRadians, localAt, flat, handedOver, newtonStep, halleyStep, stepBy};
 ghost use Rattle.step.specs.Entry.{steppedAs, judgedAs, stepRule, judgedRule};
 ghost use Rattle.step.specs.Limits.{PlaceIn};
 use grid::Angle;
-use grid::Depth;
 use grid::codes;
 use judge::Judged;
 use orbit::Cell;
 use orbit::Problem;
+
+pub mod lows;
 
 // R77: the step taken, with the new estimate. Flat hands nothing over.
 pub enum Taken {
@@ -59,6 +62,14 @@ pub struct Local {
     slope: f64,
 }
 
+// R75: a bound that is biased, in radians.
+fn radians(biased: u64) -> f64
+    requires { ⌜ biased ≤ 2 * bias ⌝ }
+    ensures { λ r. ⌜ r ≡ inRadians (subℕ biased bias) ⌝ }
+{
+    (series::unbiased(biased) as f64) / units::RADIAN
+}
+
 // R75, R76: each operation is rounded once, and they stand in the rule's order.
 fn local_at(p: Place) -> Local
     requires { ⌜ PlaceIn p ⌝ }
@@ -68,11 +79,9 @@ fn local_at(p: Place) -> Local
     let mean = cell.m;
     let shape = cell.a;
     let x = p.estimate;
-    let f = p.floor as u32;
-    let sine = series::sine(f, Depth::GREATEST);
-    let cosine = cosine::cosine(f, Depth::GREATEST);
-    let s = (sine.lo as f64) / units::RADIAN;
-    let k = (cosine.lo as f64) / units::RADIAN;
+    let low = lows::at(Angle { units: p.floor });
+    let s = radians(low.sine);
+    let k = radians(low.cosine);
     let m = (mean.down as f64) / units::RADIAN;
     let e = (shape.down as f64) / units::RADIAN;
     let g = e * s;

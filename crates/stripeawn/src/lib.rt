@@ -1,6 +1,7 @@
 // The C library: every entry, thin over the crate that has its rule. include/stripeawn.h documents them for C.
 ghost use mathlib.Core.Path.{_≡_};
 ghost use Rattle.series.specs.Entry.{sineRule};
+ghost use Rattle.cosine.specs.Cosine.{cosineRule};
 ghost use Rattle.orbit.specs.Given.{grid, doubles};
 ghost use Rattle.ends.specs.Entry.{lowerRule, upperRule};
 ghost use Rattle.enclosure.specs.Enclosure.{enclosureRule};
@@ -9,6 +10,7 @@ ghost use Rattle.proposal.specs.Propose.{proposalRule};
 ghost use Rattle.judge.specs.Judge.{judgeRule};
 ghost use Rattle.judge.specs.Settle.{settleRule};
 ghost use Rattle.distance.specs.Distance.{distanceRule};
+ghost use Rattle.step.specs.Entry.{stepRule, judgedRule};
 ghost use Rattle.claims.specs.Form.{twenty};
 ghost use Rattle.claims.specs.Batch.{batchRule, answersAfter};
 use claims::Batch;
@@ -18,13 +20,22 @@ use ends::End;
 use judge::Judged;
 use judge::Settled;
 use proposal::Proposal;
-use series::SineBounds;
+use series::Bounds;
+use step::JudgedStep;
+use step::Stepped;
 
 #[no_mangle]
-pub extern "C" fn stripeawn_sine(x: u32, depth: u32) -> SineBounds
+pub extern "C" fn stripeawn_sine(x: u32, depth: u32) -> Bounds
     ensures { λ r. ⌜ r ≡ sineRule x depth ⌝ }
 {
     series::sine(x, depth)
+}
+
+#[no_mangle]
+pub extern "C" fn stripeawn_cosine(x: u32, depth: u32) -> Bounds
+    ensures { λ r. ⌜ r ≡ cosineRule x depth ⌝ }
+{
+    cosine::cosine(x, depth)
 }
 
 #[no_mangle]
@@ -129,6 +140,27 @@ pub extern "C" fn stripeawn_distance_double(m: f64, e: f64, estimate: f64) -> Of
     ensures { λ r. ⌜ r ≡ distanceRule (doubles m e) estimate ⌝ }
 {
     distance::distance_double(m, e, estimate)
+}
+
+#[no_mangle]
+pub extern "C" fn stripeawn_step(m: i32, a: u32, estimate: f64, method: u32) -> Stepped
+    ensures { λ r. ⌜ r ≡ stepRule m a estimate method ⌝ }
+{
+    step::step(m, a, estimate, method)
+}
+
+#[no_mangle]
+pub extern "C" fn stripeawn_step_judged(
+    m: i32,
+    a: u32,
+    estimate: f64,
+    method: u32,
+    n: u32,
+    depth: u32,
+) -> JudgedStep
+    ensures { λ r. ⌜ r ≡ judgedRule m a estimate method n depth ⌝ }
+{
+    step::step_judged(m, a, estimate, method, n, depth)
 }
 
 #[no_mangle]
