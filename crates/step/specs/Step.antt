@@ -1,6 +1,6 @@
 -- One step of Newton or Halley in binary64, R75 to R77, of a problem of the grid as it is posed.
 use Prim.Native.Nat.{ℕ}
-use mathlib.Core.Bool.{Bool, false, _||_, cond}
+use mathlib.Core.Bool.{Bool, true, false, _||_, cond}
 use lib.Dec.{eqb}
 use lib.IntN.{ℤ, pos}
 use lib.Ieee.{Float, fin, binary64, ofInt, sub, mul, div, eq}
@@ -70,13 +70,16 @@ flat divisor y = eq divisor plus-zero || offRange T-units y
 abbrev pub handedOver : Bool → Float → Float
 handedOver mirrored y = cond (eq y plus-zero) plus-zero (mirrorDouble mirrored y)
 
--- R77: Newton's step
-abbrev pub newtonStep : Bool → Local → Taken
-newtonStep mirrored t = cond (flat (t .slope) (newtonNew t)) Flat (Newton (handedOver mirrored (newtonNew t)))
+-- R77: Flat, or a method's case with what is handed over
+abbrev pub taken : (Float → Taken) → Bool → Float → Float → Taken
+taken method mirrored divisor y = cond (flat divisor y) Flat (method (handedOver mirrored y))
 
--- R77: Halley's step
+-- R77: Newton's step and Halley's
+abbrev pub newtonStep : Bool → Local → Taken
+newtonStep mirrored t = taken Newton mirrored (t .slope) (newtonNew t)
+
 abbrev pub halleyStep : Bool → Local → Taken
-halleyStep mirrored t = cond (flat (halleyDivisor t) (halleyNew t)) Flat (Halley (handedOver mirrored (halleyNew t)))
+halleyStep mirrored t = taken Halley mirrored (halleyDivisor t) (halleyNew t)
 
 -- R78: the step of a method that is 1 or 2
 abbrev pub stepBy : ℕ → Bool → Local → Taken
@@ -93,3 +96,9 @@ abbrev pub stepEstimate : Taken → Float
 stepEstimate (Newton y) = y
 stepEstimate (Halley y) = y
 stepEstimate Flat = plus-zero
+
+-- R59: a step mirrored: its estimate becomes its negative, and zero stays plus zero
+abbrev pub mirrorTaken : Taken → Taken
+mirrorTaken (Newton y) = Newton (handedOver true y)
+mirrorTaken (Halley y) = Halley (handedOver true y)
+mirrorTaken Flat = Flat
