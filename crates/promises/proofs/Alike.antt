@@ -109,7 +109,7 @@ on-grid m e M A p q =
     }) (u .sign)
 
 -- a double with the sign and the size of a whole number of units
-value-in-units : (x : Float) (z : ℤ) → HasValue x (negative z) (natAbs z) one → InUnits x z 1
+pub value-in-units : (x : Float) (z : ℤ) → HasValue x (negative z) (natAbs z) one → InUnits x z 1
 value-in-units nan z v = absurd v
 value-in-units (inf s) z v = absurd v
 value-in-units (fin s m e) (pos n) v =

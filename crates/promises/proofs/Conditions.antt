@@ -1,6 +1,6 @@
 -- Each check fails exactly when the table says. Assumes nothing.
 use mathlib.Core.Path.{_≡_, refl, sym, ap}
-use mathlib.Core.Bool.{Bool, true, false, not, _&&_, true≢false}
+use mathlib.Core.Bool.{Bool, true, false, not, _&&_, _||_, true≢false}
 use mathlib.Core.Logic.{_⊎_, inl, inr, _↔_}
 use Prim.Native.Nat.{ℕ, zero, suc, _+_, _*_, _<_}
 use native.Mathlib.Omega.{arith}
@@ -92,6 +92,12 @@ tested mirrored x =
     either (negative (mirror mirrored x)) (ltb T-units (natAbs (mirror mirrored x))) (opposes mirrored x)
     (rw (size-sign (not mirrored) x) (less T-units (natAbs x)))
 
+-- ---- the method
+
+neither : (s t : Bool) {P Q : Type 0} → (not s ≡ true ↔ P) → (not t ≡ true ↔ Q) → not (s || t) ≡ true ↔ P × Q
+neither true t p q = (λ e. absurd (true≢false (sym e)), λ h. p .1 (h .0))
+neither false t p q = (λ e. (p .0 refl, q .0 e), λ h. q .1 (h .1))
+
 pub conditions : Conditions
 conditions =
     record {
@@ -107,4 +113,5 @@ conditions =
       reserved = λ claims start. rw (one-byte claims (start + twenty .reserved .at)) (differ _ _);
       x = λ x. less _ _;
       tested = tested;
+      method = λ method. neither (eqb method 1) (eqb method 2) (differ _ _) (differ _ _);
     }

@@ -11,8 +11,10 @@ use Rattle.grid.specs.Codes.{order, a-check, depth-check, x-check, signed-x-che
 use Rattle.grid.specs.Refuses.{Refuses, inOrder, all}
 use Rattle.grid.proofs.Refuses.{refuses}
 use Rattle.grid.proofs.Made.{angles, signed-angles, eccentricities, depths-made}
-use Rattle.series.specs.Entry.{boundsChecks, sineRule}
+use Rattle.series.specs.Sine.{sine}
+use Rattle.series.specs.Entry.{boundsChecks, boundsRule}
 use Rattle.series.proofs.Answers.{bounded}
+use Rattle.cosine.specs.Cosine.{cosine}
 use Rattle.units.specs.Units.{estimate-check}
 use Rattle.units.proofs.Made.{estimates}
 use Rattle.orbit.specs.Given.{Given, checksOf, problemChecks}
@@ -32,6 +34,8 @@ use Rattle.judge.proofs.Answered.{claims}
 use Rattle.judge.proofs.SettleAnswers.{settlings}
 use Rattle.distance.specs.Distance.{distanceChecks, distanceRule}
 use Rattle.distance.proofs.Answered.{distances}
+use Rattle.step.specs.Entry.{stepChecks, stepRule, judgedChecks, judgedRule}
+use Rattle.step.proofs.Answered.{steps, judged-steps}
 use Rattle.claims.specs.Form.{twenty}
 use Rattle.claims.specs.Record.{recordChecks, claimAt, answerAt}
 use Rattle.claims.specs.Batch.{batchChecks, batchRule}
@@ -52,19 +56,21 @@ bytes claims i =
     refuses codeOfByte (λ k. k) (verdictNumber v) (verdict-code v) (recordChecks twenty claims i)
     (refl, (refl, (refl, (refl, (refl, (refl, tt)))))) tt
 
-in-order : (x a d n i : ℕ) (z : ℤ) (g : Given) (f : Float) (claims answers : List ℕ)
+in-order : (x a d n i method : ℕ) (z : ℤ) (g : Given) (f : Float) (claims answers : List ℕ)
     → T (all (inOrder order)
     (boundsChecks x d ∷ endChecks z g d ∷ enclosureChecks g d ∷ checksOf g ∷ problemChecks g d
-    ∷ claimChecks (claimOf g f n d) ∷ settleChecks g f n ∷ distanceChecks g f ∷ batchChecks twenty (length claims) (length answers)
+    ∷ claimChecks (claimOf g f n d) ∷ settleChecks g f n ∷ distanceChecks g f ∷ stepChecks z a f method ∷ judgedChecks z a f method n d
+    ∷ batchChecks twenty (length claims) (length answers)
     ∷ recordChecks twenty claims i ∷ (x-check x ∷ []) ∷ (signed-x-check z ∷ []) ∷ (a-check a ∷ []) ∷ (depth-check d ∷ []) ∷ (estimate-check f ∷ []) ∷ []))
 unfolding order
-in-order x a d n i z g f claims answers = tt
+in-order x a d n i method z g f claims answers = tt
 
 pub demand-1 : Demand1
-unfolding boundsRule proposalRule judgeRule settleRule distanceRule batchRule order
+unfolding boundsRule proposalRule judgeRule settleRule distanceRule stepRule judgedRule batchRule order
 demand-1 =
     record {
       sine = λ x d. bounded sine x d .demand;
+      cosine = λ x d. bounded cosine x d .demand;
       lower-end = λ x g d. ends false x g d .demand;
       upper-end = λ x g d. ends true x g d .demand;
       enclose = λ g d. enclosures g d .demand;
@@ -72,6 +78,8 @@ demand-1 =
       judge = λ c. claims c .demand;
       settle = λ g x n. settlings g x n .demand;
       distance = λ g x. distances g x .demand;
+      step = λ m a x method. steps m a x method .demand;
+      step-judged = λ m a x method n d. judged-steps m a x method n d .demand;
       batch = λ claims answers. batches twenty (length claims) (length answers) .demand;
       lent = refused-kept twenty;
       byte = bytes;

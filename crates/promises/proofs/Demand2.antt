@@ -16,11 +16,16 @@ use Rattle.grid.specs.Grid.{H-units, T-units, depths}
 use Rattle.grid.specs.Codes.{Passed, bad-x, depth-check}
 use Rattle.grid.proofs.FirstCode.{split, join}
 use Rattle.grid.proofs.Fits.{limit-fits, depth-fits}
-use Rattle.series.specs.Entry.{sineRule}
+use Rattle.series.specs.Terms.{Series}
+use Rattle.series.specs.Sine.{sine}
+use Rattle.series.specs.Entry.{boundsChecks, boundsRule, sineRule}
+use Rattle.series.proofs.Answers.{bounded}
 use Rattle.series.proofs.BoundsTrue.{Lo-true, Hi-true}
 use Rattle.series.proofs.Width.{width-5}
+use Rattle.cosine.specs.Cosine.{cosine, cosineRule}
+use Rattle.cosine.proofs.CosineLaws.{CosLo-true, CosHi-true, cosine-width}
 use Rattle.orbit.specs.Mirror.{mirror, mirrorEnd}
-use Rattle.orbit.specs.Given.{Given, checksOf, mirroredOf, cellOf, problemChecks}
+use Rattle.orbit.specs.Given.{Given, grid, checksOf, mirroredOf, cellOf, problemChecks}
 use Rattle.orbit.proofs.Posed.{cell-in}
 use Rattle.ends.specs.Ends.{endAt, lowerEnd, upperEnd}
 use Rattle.ends.proofs.Mirror.{twice, end-true}
@@ -32,31 +37,51 @@ use Rattle.rotations.proofs.Brought.{brought-within}
 use Rattle.proposal.specs.Certify.{lowAt, highAt, certifies, certificate}
 use Rattle.proposal.specs.Propose.{concluded, mirrorProposal, proposalRule}
 use Rattle.proposal.proofs.Certificate.{certificate-only, concluded-smallest, concluded-true}
+use Rattle.judge.specs.Judge.{claimOf}
 use Rattle.judge.specs.declared.Verdict.the-variants.{Confirmed, Refuted}
 use Rattle.judge.proofs.Answered.{confirmed-says, refuted-says}
 use Rattle.judge.proofs.SettleAnswers.{confirmed-true, refuted-true}
 use Rattle.claims.specs.Form.{twenty}
 use Rattle.claims.specs.Record.{claimAt}
-use Rattle.promises.specs.Demand2.{SineTrue, EndTrue, EndsTrue, AcceptedAt, Certified, Demand2}
+use Rattle.promises.specs.Demand2.{BoundsTrue, EndTrue, EndsTrue, AcceptedAt, Certified, Demand2}
 use Rattle.promises.proofs.Demand1.{demand-1}
 use Rattle.promises.proofs.Mirror.{at-0, each-end, in-order, further, inward-mirrored}
 use Rattle.promises.proofs.Ends.{exact-says, spare-says, accepts-at, declines-at}
 use Rattle.promises.proofs.Rules.{rules}
 use Rattle.promises.proofs.Bytes.{after-judged}
+use Rattle.promises.proofs.Step.{judged-says}
 
--- ---- the sine bounds
+-- ---- the bounds of sine and of cosine
 
-module _ (x d : ℕ) (e : sineRule x d .code ≡ 0) where
+-- an angle and a depth that were answered with code 0 are within their limits
+module _ (s : Series) (x d : ℕ) (e : boundsRule s x d .code ≡ 0) where
+  passed : Passed (boundsChecks x d)
+  unfolding boundsRule
+  passed = bounded s x d .demand .passed .0 e
+
   angle-in : x ≤ T-units
-  angle-in = limit-fits x T-units bad-x (demand-1 .sine x d .passed .0 e .1 .0)
+  angle-in = limit-fits x T-units bad-x (passed .1 .0)
 
-  sine-true : SineTrue x (sineRule x d)
-  sine-true =
-      let few = depth-fits d (demand-1 .sine x d .passed .0 e .0) .few in
-      rw (rules .sine x d e) (record { low = Lo-true x d angle-in few; high = Hi-true x d angle-in few })
+  few-pairs : d ≤ depths
+  few-pairs = depth-fits d (passed .0) .few
+
+sine-true : (x d : ℕ) → sineRule x d .code ≡ 0 → BoundsTrue sine x (sineRule x d)
+sine-true x d e =
+    let h = angle-in sine x d e in
+    let few = few-pairs sine x d e in
+    rw (rules .sine x d e) (record { low = Lo-true x d h few; high = Hi-true x d h few })
 
 sine-width : (x : ℕ) → sineRule x depths .code ≡ 0 → sineRule x depths .hi ≤ℤ (sineRule x depths .lo +ℤ pos 32)
-sine-width x e = rw (rules .sine x depths e) (width-5 x (angle-in x depths e))
+sine-width x e = rw (rules .sine x depths e) (width-5 x (angle-in sine x depths e))
+
+cosine-true : (x d : ℕ) → cosineRule x d .code ≡ 0 → BoundsTrue cosine x (cosineRule x d)
+cosine-true x d e =
+    let h = angle-in cosine x d e in
+    let few = few-pairs cosine x d e in
+    rw (rules .cosine x d e) (record { low = CosLo-true x d h few; high = CosHi-true x d h few })
+
+cosine-width-met : (x : ℕ) → cosineRule x depths .code ≡ 0 → cosineRule x depths .hi ≤ℤ (cosineRule x depths .lo +ℤ pos 26)
+cosine-width-met x e = rw (rules .cosine x depths e) (cosine-width x (angle-in cosine x depths e))
 
 -- ---- the enclosure
 
@@ -132,6 +157,8 @@ demand-2 =
     record {
       sine = sine-true;
       width = sine-width;
+      cosine = cosine-true;
+      cosine-width = cosine-width-met;
       lower = exact-says false;
       upper = exact-says true;
       lower-spare = spare-says false;
@@ -147,6 +174,10 @@ demand-2 =
       refuted = refuted-says;
       settled-confirmed = confirmed-true;
       settled-refuted = refuted-true;
+      step-confirmed = λ m a x method n d e.
+          let (same, says) = judged-says m a x method n d Confirmed e in rw same (confirmed-says (claimOf (grid m a) _ n d) says);
+      step-refuted = λ m a x method n d e.
+          let (same, says) = judged-says m a x method n d Refuted e in rw same (refuted-says (claimOf (grid m a) _ n d) says);
       byte-confirmed = λ claims answers i h e. confirmed-says (claimAt twenty claims i) (after-judged claims answers i Confirmed h e);
       byte-refuted = λ claims answers i h e. refuted-says (claimAt twenty claims i) (after-judged claims answers i Refuted h e);
       rules = rules;

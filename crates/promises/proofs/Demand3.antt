@@ -10,11 +10,12 @@ use native.Mathlib.Decide.{decLe}
 use lib.Dec.{T}
 use lib.IntN.{ℤ, pos, natAbs}
 use lib.Signed.{_≤ℤ_}
+use lib.Ieee.{Float}
 use Rattle.grid.specs.Grid.{T-units, depths}
 use Rattle.grid.proofs.FirstCode.{goes}
 use Rattle.orbit.specs.Mirror.{mirror, mirrorEnd}
 use Rattle.orbit.specs.Cell.{CellIn}
-use Rattle.orbit.specs.Given.{Given, mirroredOf, cellOf}
+use Rattle.orbit.specs.Given.{Given, grid, mirroredOf, cellOf}
 use Rattle.orbit.specs.declared.Cell.{Cell}
 use Rattle.orbit.proofs.Possible.{pos-le}
 use Rattle.ends.specs.Ends.{endAt}
@@ -22,18 +23,21 @@ use Rattle.ends.specs.Entry.{flagged, lowerRule, upperRule}
 use Rattle.ends.proofs.Apart.{apart}
 use Rattle.enclosure.proofs.Encloses.{code-zero, deeper-within}
 use Rattle.judge.specs.Verdict.{verdictNumber}
-use Rattle.judge.specs.Judge.{Claim, verdict, judgeRule}
+use Rattle.judge.specs.Judge.{Claim, claimOf, verdict, judgeRule}
 use Rattle.judge.specs.declared.Judged.{Judged}
 use Rattle.judge.specs.declared.Verdict.{Verdict}
 use Rattle.judge.specs.declared.Verdict.the-variants.{Confirmed, Refuted}
 use Rattle.judge.proofs.Kept as judge
 use Rattle.judge.specs.Exact.{atDepth}
 use Rattle.judge.proofs.Answered.{case-in, judged-passed, confirmed-at, refuted-at}
+use Rattle.step.specs.Step.{stepEstimate}
+use Rattle.step.specs.Entry.{stepFrom, judgedRule}
 use Rattle.claims.specs.Form.{twenty}
 use Rattle.claims.specs.Record.{reserved-check, claimAt, answerAt}
 use Rattle.claims.proofs.AnswerBytes.{byteOf, byte-is}
 use Rattle.promises.specs.Demand3.{Decided, Again, Demand3}
 use Rattle.promises.proofs.Bytes.{byte-judged}
+use Rattle.promises.proofs.Step.{judged-says, judged-again}
 use Rattle.promises.proofs.Mirror.{neg-le, inside}
 use Rattle.promises.proofs.Ends.{accepted-says}
 
@@ -86,6 +90,21 @@ bytes-never-both claims others i j e again s t =
     never-both c (c .depth) e (byte-judged claims i Confirmed s)
     (sym (ap judgeRule (again .claim)) ∙ byte-judged others j Refuted t)
 
+-- ---- a judged step: whatever the depth, it is one step, and the judge has judged its estimate
+
+step-kept : (m : ℤ) (a : ℕ) (x : Float) (method n d : ℕ) (v : Verdict) (e : ℕ) → Decided v → d ≤ e → e ≤ depths
+    → judgedRule m a x method n d .verdict ≡ verdictNumber v → judgedRule m a x method n e ≡ judgedRule m a x method n d
+step-kept m a x method n d v e s h k j =
+    let (same, says) = judged-says m a x method n d v j in
+    judged-again m a x method n d e v h k (kept (claimOf (grid m a) (stepEstimate (stepFrom m a x method)) n d) v e s h k says) j
+
+step-never-both : (m : ℤ) (a : ℕ) (x : Float) (method n d e : ℕ) → judgedRule m a x method n d .verdict ≡ verdictNumber Confirmed
+    → judgedRule m a x method n e .verdict ≡ verdictNumber Refuted → ⊥
+step-never-both m a x method n d e i j =
+    let (p, c) = judged-says m a x method n d Confirmed i in
+    let (q, r) = judged-says m a x method n e Refuted j in
+    never-both (claimOf (grid m a) (stepEstimate (stepFrom m a x method)) n d) d e c r
+
 -- ---- the ends
 
 -- R21: on the mirror the upper end is the lower one
@@ -110,6 +129,8 @@ demand-3 =
       kept = kept;
       tests-never-both = λ c u n d e within top i j. judge.never-both c u n within top d e i j;
       never-both = never-both;
+      step-kept = step-kept;
+      step-never-both = step-never-both;
       byte-kept = byte-kept;
       bytes-never-both = bytes-never-both;
       apart = ends-apart;

@@ -11,13 +11,18 @@ use Rattle.grid.specs.Codes.{Check, number, done, bad-depth, checked, depth-che
 use Rattle.grid.proofs.FirstCode.{split, join}
 use Rattle.grid.proofs.Fits.{depth-passes}
 use Rattle.series.proofs.Factorial.{den-is, num-is}
-use Rattle.series.proofs.Falling.{sine-odd-never-falls, sine-even-never-rises}
+use Rattle.series.proofs.Between.{greatest-le-least}
+use Rattle.series.proofs.Falling.{odd-never-falls, even-never-rises, square-within, sine-odd-never-falls, sine-even-never-rises}
+use Rattle.series.specs.Terms.{Series}
 use Rattle.series.specs.Bounds.{Spent}
 use Rattle.series.specs.Sine.{sine}
-use Rattle.series.specs.Entry.{noBounds, boundsOf, boundsRule, sineRule}
+use Rattle.series.specs.Entry.{noBounds, boundsOf, boundsRule}
 use Rattle.series.specs.declared.Bounds.{Bounds}
-use Rattle.series.proofs.Deeper.{Lo-rises, Hi-falls}
+use Rattle.series.proofs.Deeper.{greatest-rises, least-falls, Lo-rises, Hi-falls}
 use Rattle.series.proofs.Stays.{low-stays, high-stays, spent-angles}
+use Rattle.cosine.specs.Cosine.{cosine}
+use Rattle.cosine.proofs.CosineTerms.{cosine-divides, cosine-fall, T-fall}
+use Rattle.cosine.proofs.CosineLaws.{denC-is, numC-is}
 use Rattle.orbit.specs.Mirror.{mirror, mirrorEnd}
 use Rattle.orbit.specs.Given.{Given, checksOf, mirroredOf, cellOf}
 use Rattle.orbit.proofs.Posed.{problem-in}
@@ -34,9 +39,11 @@ use Rattle.units.specs.Units.{offRange, unitsWith, codedEstimate}
 use Rattle.units.proofs.Rounding.{made-exact, made-rounded}
 use Rattle.claim_file.proofs.Output as program
 use Rattle.judge.proofs.SettleAnswers as settle
+use Rattle.promises.specs.Cosine.{CosineSums}
 use Rattle.promises.specs.Further.{Sums, Ends, Searches, Proposals, Estimates, Further}
 use Rattle.promises.proofs.Figures.{figures}
 use Rattle.promises.proofs.Distance.{distance}
+use Rattle.promises.proofs.Step.{steps-met}
 use Rattle.promises.proofs.Alike.{mirrored, doubles-met}
 use Rattle.promises.proofs.Mirror.{at-0}
 use Rattle.promises.proofs.Ends.{accepted-says, accepts, accepts-at, declines-at}
@@ -46,10 +53,10 @@ same-check : (d e : ℕ) → 1 ≤ d → d ≤ depths → 1 ≤ e → e ≤ dept
 same-check d e i j k m =
     ap (λ (t : Bool). record { fails = t; code = bad-depth }) (depth-passes d i j ∙ sym (depth-passes e k m))
 
-spent-sine : (X n d : ℕ) → Spent sine X n → 1 ≤ n → n ≤ d → d ≤ depths → sineRule X d ≡ sineRule X n
+spent-bounds : (s : Series) (X n d : ℕ) → Spent s X n → 1 ≤ n → n ≤ d → d ≤ depths → boundsRule s X d ≡ boundsRule s X n
 unfolding boundsRule
-spent-sine X n d h some k few =
-    let e : boundsOf sine X d ≡ boundsOf sine X n = ap₂ (λ (low high : ℤ). record { code = number done; lo = low; hi = high }) (low-stays h some d k) (high-stays h some d k) in
+spent-bounds s X n d h some k few =
+    let e : boundsOf s X d ≡ boundsOf s X n = ap₂ (λ (low high : ℤ). record { code = number done; lo = low; hi = high }) (low-stays h some d k) (high-stays h some d k) in
     ap₂ (λ (c : Check) (r : Bounds). checked (c ∷ x-check X ∷ []) noBounds r)
     (same-check d n (omega arith) few some (omega arith)) e
 
@@ -65,7 +72,21 @@ sums =
       spent-low = λ s X n d h some k. low-stays h some d k;
       spent-high = λ s X n d h some k. high-stays h some d k;
       spent-angles = spent-angles;
-      spent-sine = spent-sine;
+      spent-sine = spent-bounds sine;
+    }
+
+cosine-sums : CosineSums
+cosine-sums =
+    record {
+      denominator = denC-is;
+      numerator = numC-is;
+      odd-never-falls = λ X i k x. odd-never-falls cosine X (cosine-fall X x) i k;
+      even-never-rises = λ X i k x. even-never-rises cosine X (cosine-fall X x) i k;
+      within-12 = λ X h. square-within X 12 h tt;
+      low-rises = greatest-rises cosine;
+      high-falls = least-falls cosine;
+      low-below-high = λ X d e h. greatest-le-least cosine cosine-divides X (T-fall X h) d e;
+      spent = spent-bounds cosine;
     }
 
 -- ---- the end tests
@@ -162,6 +183,8 @@ further =
           };
       figures = figures;
       distance = distance;
+      cosine-sums = cosine-sums;
+      steps = steps-met;
       mirrored = mirrored;
       doubles = doubles-met;
       program = record { complete = program.complete; longer = program.longer; cut = program.cut };

@@ -14,4 +14,5 @@ pub mod Figures
 pub mod Distance
 pub mod Further
 pub mod Starred
+pub mod Step
 pub mod Unique

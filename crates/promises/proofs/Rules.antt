@@ -5,8 +5,10 @@ use Prim.Native.Nat.{ℕ}
 use lib.ListN.{length}
 use Rattle.grid.proofs.FirstCode.{goes}
 use Rattle.grid.proofs.Made.{angles, signed-angles, eccentricities, depths-made}
-use Rattle.series.specs.Entry.{sineRule}
+use Rattle.series.specs.Sine.{sine}
+use Rattle.series.specs.Entry.{boundsRule}
 use Rattle.series.proofs.Answers.{bounded}
+use Rattle.cosine.specs.Cosine.{cosine}
 use Rattle.units.proofs.Made.{estimates}
 use Rattle.orbit.proofs.Posed.{cells, problems}
 use Rattle.ends.proofs.Answered.{ends}
@@ -20,6 +22,8 @@ use Rattle.judge.proofs.Answered as judge
 use Rattle.judge.proofs.SettleAnswers.{settlings}
 use Rattle.distance.specs.Distance.{distanceRule}
 use Rattle.distance.proofs.Answered.{distances}
+use Rattle.step.specs.Entry.{stepRule, judgedRule}
+use Rattle.step.proofs.Answered.{steps, judged-steps}
 use Rattle.claims.specs.Form.{twenty}
 use Rattle.claims.specs.Record.{recordChecks, claimAt, answerAt}
 use Rattle.claims.specs.Batch.{batchRule}
@@ -30,10 +34,11 @@ use Rattle.promises.specs.Rules.{Rules}
 use Rattle.promises.proofs.Demand1.{demand-1}
 
 pub rules : Rules
-unfolding boundsRule proposalRule judgeRule settleRule distanceRule batchRule answerAt
+unfolding boundsRule proposalRule judgeRule settleRule distanceRule stepRule judgedRule batchRule answerAt
 rules =
     record {
       sine = λ x d. bounded sine x d .says _ refl .made;
+      cosine = λ x d. bounded cosine x d .says _ refl .made;
       lower-end = λ x g d. ends false x g d .says _ refl .made;
       upper-end = λ x g d. ends true x g d .says _ refl .made;
       enclose = λ g d. enclosures g d .says _ refl .made;
@@ -41,6 +46,8 @@ rules =
       judge = λ c. judge.claims c .says _ refl .made;
       settle = λ g x n. settlings g x n .says _ refl .made;
       distance = λ g x. distances g x .says _ refl .made;
+      step = λ m a x method. steps m a x method .says _ refl .made;
+      step-judged = λ m a x method n d. judged-steps m a x method n d .says _ refl .made;
       count = λ claims answers. batches twenty (length claims) (length answers) .says _ refl .made;
       written = byte-answered twenty;
       byte = λ claims i e.

@@ -6,7 +6,7 @@ use lib.Ieee.{neg, ofBits}
 use Rattle.whole.specs.First.{firstFrom}
 use Rattle.series.specs.Terms.{l, u}
 use Rattle.series.specs.Bounds.{evens, odds, rawLow, rawHigh, greatestLow, leastHigh}
-use Rattle.series.specs.Entry.{sineRule}
+use Rattle.series.specs.Entry.{boundsRule}
 use Rattle.ends.specs.Ends.{belowBy, aboveBy}
 use Rattle.enclosure.specs.Halving.{halve, turns}
 use Rattle.enclosure.specs.Enclosure.{foundLower, foundUpper}

@@ -16,6 +16,7 @@ pub unique : Unique
 unique =
     record {
       sine = λ x d. one _;
+      cosine = λ x d. one _;
       lower-end = λ x g d. one _;
       upper-end = λ x g d. one _;
       enclose = λ g d. one _;
@@ -23,6 +24,8 @@ unique =
       judge = λ c. one _;
       settle = λ g x n. one _;
       distance = λ g x. one _;
+      step = λ m a x method. one _;
+      step-judged = λ m a x method n d. one _;
       judge-claims = λ claims before r s e f. both (e .result ∙ sym (f .result)) (e .answers ∙ sym (f .answers));
       angle = λ n. one _;
       signed-angle = λ z. one _;
@@ -34,6 +37,8 @@ unique =
       answer-file = λ input before r s e f. both (e .result ∙ sym (f .result)) (e .answers ∙ sym (f .answers));
       limited = λ n limit code. one _;
       earlier = λ code next. one _;
+      ask = λ x d. one _;
+      best = λ w. one _;
       spent = λ w. one _;
       on-grid = λ m a. one _;
       step-down = λ x n. one _;

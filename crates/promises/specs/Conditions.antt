@@ -11,7 +11,7 @@ use lib.Ieee.{Float, nan, inf, fin}
 use lib.Ieee.Positive.{den}
 use lib.ListN.{getD}
 use Rattle.grid.specs.Grid.{one, H-units, T-units, depths, N-units}
-use Rattle.grid.specs.Codes.{Check, a-check, depth-check, x-check, signed-x-check, n-check}
+use Rattle.grid.specs.Codes.{Check, a-check, depth-check, x-check, signed-x-check, n-check, method-check}
 use Rattle.orbit.specs.Mirror.{mirror}
 use Rattle.orbit.specs.Given.{Given, grid, doubles, badM, badA}
 use Rattle.orbit.specs.declared.Cell.{Cell}
@@ -75,6 +75,8 @@ pub record Conditions : Type 0 where
   -- code 9: the reserved byte
   pub reserved : (claims : List ℕ) (start : ℕ)
       → Exactly (reserved-check twenty claims start) (getD claims (start + twenty .reserved .at) 0 ≡ 0 → ⊥)
-  -- code 10, of an angle of the sine; and of a tested one, which is mirrored with M
+  -- code 10, of an angle of sine and cosine; and of a tested one, which is mirrored with M
   pub x : (x : ℕ) → Exactly (x-check x) (T-units < x)
   pub tested : (mirrored : Bool) (x : ℤ) → Exactly (signed-x-check (mirror mirrored x)) (Opposes mirrored x ⊎ (T-units < natAbs x))
+  -- code 21
+  pub method : (method : ℕ) → Exactly (method-check method) ((method ≡ 1 → ⊥) × (method ≡ 2 → ⊥))

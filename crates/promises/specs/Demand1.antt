@@ -16,6 +16,7 @@ use Rattle.grid.specs.declared.CodedEccentricity.{CodedEccentricity}
 use Rattle.grid.specs.declared.CodedDepth.{CodedDepth}
 use Rattle.series.specs.Entry.{boundsChecks, noBounds, sineRule}
 use Rattle.series.specs.declared.Bounds.{Bounds}
+use Rattle.cosine.specs.Cosine.{cosineRule}
 use Rattle.units.specs.Units.{estimate-check, zerosWith, codedEstimate}
 use Rattle.units.specs.declared.CodedUnits.{CodedUnits}
 use Rattle.orbit.specs.Given.{Given, checksOf, noCell, codedCell, problemChecks, noProblem, codedProblem}
@@ -35,6 +36,9 @@ use Rattle.judge.specs.declared.Settled.{Settled}
 use Rattle.judge.specs.declared.Verdict.the-variants.{Confirmed, Refuted, Undecided}
 use Rattle.distance.specs.Distance.{distanceChecks, noDistance, distanceRule}
 use Rattle.distance.specs.declared.Off.{Off}
+use Rattle.step.specs.Entry.{stepChecks, unstepped, stepRule, judgedChecks, unjudgedStep, judgedRule}
+use Rattle.step.specs.declared.Stepped.{Stepped}
+use Rattle.step.specs.declared.JudgedStep.{JudgedStep}
 use Rattle.claims.specs.Form.{twenty}
 use Rattle.claims.specs.Record.{recordChecks, answerAt}
 use Rattle.claims.specs.Batch.{batchChecks, batchWith, batchRule, answersAfter}
@@ -55,6 +59,7 @@ batchOf claims answers = batchRule twenty (length claims) (length answers)
 
 pub record Demand1 : Type 0 where
   pub sine : (x d : ℕ) → Refuses (boundsChecks x d) (λ (r : Bounds). r .code) noBounds (sineRule x d)
+  pub cosine : (x d : ℕ) → Refuses (boundsChecks x d) (λ (r : Bounds). r .code) noBounds (cosineRule x d)
   pub lower-end : (x : ℤ) (g : Given) (d : ℕ) → Refuses (endChecks x g d) (λ (r : End). r .code) endRefused (lowerRule x g d)
   pub upper-end : (x : ℤ) (g : Given) (d : ℕ) → Refuses (endChecks x g d) (λ (r : End). r .code) endRefused (upperRule x g d)
   pub enclose : (g : Given) (d : ℕ) → Refuses (enclosureChecks g d) (λ (r : Enclosure). r .code) refusal (enclosureRule g d)
@@ -63,6 +68,10 @@ pub record Demand1 : Type 0 where
   pub settle : (g : Given) (x : Float) (n : ℕ)
       → Refuses (settleChecks g x n) (λ (r : Settled). r .code) unsettled (settleRule g x n)
   pub distance : (g : Given) (x : Float) → Refuses (distanceChecks g x) (λ (r : Off). r .code) noDistance (distanceRule g x)
+  pub step : (m : ℤ) (a : ℕ) (x : Float) (method : ℕ)
+      → Refuses (stepChecks m a x method) (λ (r : Stepped). r .code) unstepped (stepRule m a x method)
+  pub step-judged : (m : ℤ) (a : ℕ) (x : Float) (method n d : ℕ)
+      → Refuses (judgedChecks m a x method n d) (λ (r : JudgedStep). r .code) unjudgedStep (judgedRule m a x method n d)
   pub batch : (claims answers : List ℕ)
       → Refuses (batchChecks twenty (length claims) (length answers)) (λ (r : Batch). r .code) (λ k. batchWith k 0)
       (batchOf claims answers)
@@ -81,10 +90,11 @@ pub record Demand1 : Type 0 where
   pub problem : (g : Given) (d : ℕ) → Refuses (problemChecks g d) (λ (r : CodedProblem). r .code) noProblem (codedProblem g d)
   pub estimate : (x : Float) → Refuses (estimate-check x ∷ []) (λ (r : CodedUnits). r .code) zerosWith (codedEstimate x)
   -- R6: every list of checks is in the order
-  pub in-order : (x a d n i : ℕ) (z : ℤ) (g : Given) (f : Float) (claims answers : List ℕ)
+  pub in-order : (x a d n i method : ℕ) (z : ℤ) (g : Given) (f : Float) (claims answers : List ℕ)
       → T (all (inOrder order)
       (boundsChecks x d ∷ endChecks z g d ∷ enclosureChecks g d ∷ checksOf g ∷ problemChecks g d
-      ∷ claimChecks (claimOf g f n d) ∷ settleChecks g f n ∷ distanceChecks g f ∷ batchChecks twenty (length claims) (length answers) ∷ recordChecks twenty claims i ∷ (x-check x ∷ [])
+      ∷ claimChecks (claimOf g f n d) ∷ settleChecks g f n ∷ distanceChecks g f ∷ stepChecks z a f method ∷ judgedChecks z a f method n d
+      ∷ batchChecks twenty (length claims) (length answers) ∷ recordChecks twenty claims i ∷ (x-check x ∷ [])
       ∷ (signed-x-check z ∷ []) ∷ (a-check a ∷ [])
       ∷ (depth-check d ∷ []) ∷ (estimate-check f ∷ []) ∷ []))
   -- R5: when each check fails

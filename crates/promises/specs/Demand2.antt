@@ -10,9 +10,12 @@ use lib.Signed.{_≤ℤ_}
 use lib.Ieee.{Float}
 use Rattle.grid.specs.Grid.{T-units, depths}
 use Rattle.grid.specs.Codes.{number, done}
-use Rattle.series.specs.Sine.{S9, S10, den9, den10}
+use Rattle.series.specs.Terms.{Series}
+use Rattle.series.specs.Exact.{S, den}
+use Rattle.series.specs.Sine.{sine}
 use Rattle.series.specs.Entry.{sineRule}
 use Rattle.series.specs.declared.Bounds.{Bounds}
+use Rattle.cosine.specs.Cosine.{cosine, cosineRule}
 use Rattle.orbit.specs.Mirror.{mirror, mirrorEnd}
 use Rattle.orbit.specs.Given.{Given, grid, mirroredOf, cellOf}
 use Rattle.ends.specs.Exact.{EndExact, ExactAt, EndSpare}
@@ -27,15 +30,16 @@ use Rattle.judge.specs.Judge.{Claim, claimOf, caseAt, verdict, judgeRule}
 use Rattle.judge.specs.Settle.{settledAs, settleRule}
 use Rattle.judge.specs.declared.Verdict.the-variants.{Confirmed, Refuted}
 use Rattle.judge.specs.Exact.{ConfirmedExact, AboveExact, BelowExact}
+use Rattle.step.specs.Entry.{judgedRule}
 use Rattle.claims.specs.Form.{twenty}
 use Rattle.claims.specs.Record.{claimAt}
 use Rattle.promises.specs.Demand1.{batchOf}
 use Rattle.promises.specs.Rules.{Rules, byteAfter}
 
--- R14, of what `sine` returns with code 0
-pub record SineTrue (x : ℕ) (r : Bounds) : Type 0 where
-  pub low : (r .lo *ℤ pos den9) ≤ℤ S9 x
-  pub high : S10 x ≤ℤ (r .hi *ℤ pos den10)
+-- R14, R72: of what `sine` and `cosine` return with code 0, by the exact sums of terms 0 to 9 and 0 to 10
+pub record BoundsTrue (s : Series) (x : ℕ) (r : Bounds) : Type 0 where
+  pub low : (r .lo *ℤ pos (den s 9)) ≤ℤ S s x 9
+  pub high : S s x 10 ≤ℤ (r .hi *ℤ pos (den s 10))
 
 -- one unit further in than an end, `true` for an upper one
 abbrev pub inward : Bool → ℤ → ℤ
@@ -87,10 +91,15 @@ RefutedTrue c = AboveExact (c .given) (caseAt c .units) (c .n) ⊎ BelowExact (c
 
 pub record Demand2 : Type 0 where
   -- R14
-  pub sine : (x d : ℕ) → sineRule x d .code ≡ number done → SineTrue x (sineRule x d)
+  pub sine : (x d : ℕ) → sineRule x d .code ≡ number done → BoundsTrue sine x (sineRule x d)
   -- R15
   pub width : (x : ℕ) → sineRule x depths .code ≡ number done
       → sineRule x depths .hi ≤ℤ (sineRule x depths .lo +ℤ pos 32)
+  -- R72
+  pub cosine : (x d : ℕ) → cosineRule x d .code ≡ number done → BoundsTrue cosine x (cosineRule x d)
+  -- R73
+  pub cosine-width : (x : ℕ) → cosineRule x depths .code ≡ number done
+      → cosineRule x depths .hi ≤ℤ (cosineRule x depths .lo +ℤ pos 26)
   -- R19
   pub lower : (x : ℤ) (g : Given) (d : ℕ) → lowerRule x g d ≡ flagged true → EndExact false g x
   pub upper : (x : ℤ) (g : Given) (d : ℕ) → upperRule x g d ≡ flagged true → EndExact true g x
@@ -106,6 +115,11 @@ pub record Demand2 : Type 0 where
   pub refuted : (c : Claim) → judgeRule c ≡ verdict Refuted → RefutedTrue c
   pub settled-confirmed : (g : Given) (x : Float) (n d : ℕ) → settleRule g x n ≡ settledAs Confirmed d → ConfirmedTrue (claimOf g x n d)
   pub settled-refuted : (g : Given) (x : Float) (n d : ℕ) → settleRule g x n ≡ settledAs Refuted d → RefutedTrue (claimOf g x n d)
+  -- and of the new estimate of a judged step
+  pub step-confirmed : (m : ℤ) (a : ℕ) (x : Float) (method n d : ℕ) → judgedRule m a x method n d .verdict ≡ verdictNumber Confirmed
+      → ConfirmedTrue (claimOf (grid m a) (judgedRule m a x method n d .estimate) n d)
+  pub step-refuted : (m : ℤ) (a : ℕ) (x : Float) (method n d : ℕ) → judgedRule m a x method n d .verdict ≡ verdictNumber Refuted
+      → RefutedTrue (claimOf (grid m a) (judgedRule m a x method n d .estimate) n d)
   pub byte-confirmed : (claims answers : List ℕ) (i : ℕ) → i < batchOf claims answers .count
       → byteAfter claims answers i ≡ verdictNumber Confirmed → ConfirmedTrue (claimAt twenty claims i)
   pub byte-refuted : (claims answers : List ℕ) (i : ℕ) → i < batchOf claims answers .count

@@ -6,6 +6,7 @@ use mathlib.Core.Logic.{_⊎_}
 use Prim.Native.Nat.{ℕ, _*_, _≤_}
 use lib.Dec.{T}
 use lib.IntN.{ℤ}
+use lib.Ieee.{Float}
 use lib.Signed.{_≤ℤ_}
 use Rattle.grid.specs.Grid.{T-units, depths}
 use Rattle.grid.specs.Codes.{number, done}
@@ -21,6 +22,7 @@ use Rattle.judge.specs.Judge.{Claim, verdict, judgeRule}
 use Rattle.judge.specs.declared.Verdict.{Verdict}
 use Rattle.judge.specs.declared.Verdict.the-variants.{Confirmed, Refuted}
 use Rattle.judge.specs.Exact.{atDepth}
+use Rattle.step.specs.Entry.{judgedRule}
 use Rattle.claims.specs.Form.{twenty}
 use Rattle.claims.specs.Record.{reserved-check, claimAt, answerAt}
 
@@ -48,6 +50,11 @@ pub record Demand3 : Type 0 where
   -- R46, of the answers, whatever the two depths
   pub never-both : (c : Claim) (d other : ℕ)
       → judgeRule (atDepth c d) ≡ verdict Confirmed → judgeRule (atDepth c other) ≡ verdict Refuted → ⊥
+  -- R46, R47 of a judged step
+  pub step-kept : (m : ℤ) (a : ℕ) (x : Float) (method n d : ℕ) (v : Verdict) (other : ℕ) → Decided v → d ≤ other → other ≤ depths
+      → judgedRule m a x method n d .verdict ≡ verdictNumber v → judgedRule m a x method n other ≡ judgedRule m a x method n d
+  pub step-never-both : (m : ℤ) (a : ℕ) (x : Float) (method n d other : ℕ) → judgedRule m a x method n d .verdict ≡ verdictNumber Confirmed
+      → judgedRule m a x method n other .verdict ≡ verdictNumber Refuted → ⊥
   -- R46, R47 of the bytes that a batch writes
   pub byte-kept : (claims others : List ℕ) (i k : ℕ) (v : Verdict) (other : ℕ) → Again claims i others k other → Decided v
       → claimAt twenty claims i .depth ≤ other → other ≤ depths

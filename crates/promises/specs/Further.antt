@@ -1,5 +1,5 @@
 -- What the rules promise further, beside the demands: of sums, ends, searches, tables, estimates, settled claims, figures,
--- distances, mirrors, doubles and the program.
+-- distances, cosine, steps, mirrors, doubles and the program.
 use mathlib.Core.Path.{_≡_}
 use mathlib.Core.Bool.{Bool, true, false}
 use mathlib.Core.List.{List, []}
@@ -47,6 +47,8 @@ use Rattle.claim_file.specs.File.{most-bytes, output}
 use Rattle.promises.specs.Alike.{Same, Mirrors}
 use Rattle.promises.specs.Figures.{Figures}
 use Rattle.promises.specs.Distance.{Distance}
+use Rattle.promises.specs.Cosine.{CosineSums}
+use Rattle.promises.specs.Step.{Steps}
 
 pub record Sums : Type 0 where
   -- R8: 2^28 t_n is X^(2n+1) over (2^56)^n (2n+1)!
@@ -173,6 +175,8 @@ pub record Further : Type 0 where
   pub settles : Settles
   pub figures : Figures
   pub distance : Distance
+  pub cosine-sums : CosineSums
+  pub steps : Steps
   pub mirrored : Mirrored
   pub doubles : Doubles
   pub program : Program

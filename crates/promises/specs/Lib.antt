@@ -7,6 +7,8 @@ pub mod Alike
 pub mod SignedUnits
 pub mod Figures
 pub mod Distance
+pub mod Cosine
+pub mod Step
 pub mod Further
 pub mod Starred
 pub mod Unique

@@ -11,6 +11,7 @@ use Rattle.grid.specs.Codes.{number, done}
 use Rattle.grid.specs.Make.{angleWith, codedAngle, codedSigned, eccentricityWith, codedEccentricity, depthWith, codedDepth}
 use Rattle.series.specs.Sine.{Lo, Hi}
 use Rattle.series.specs.Entry.{sineRule}
+use Rattle.cosine.specs.Cosine.{CosLo, CosHi, cosineRule}
 use Rattle.units.specs.Units.{floorAndCeiling, unitsWith, codedEstimate}
 use Rattle.orbit.specs.Given.{Given, mirroredOf, cellOf, cellWith, codedCell, problemAt, problemWith, codedProblem}
 use Rattle.ends.specs.Entry.{flagged, endOf, lowerRule, upperRule}
@@ -20,6 +21,7 @@ use Rattle.judge.specs.Verdict.{verdictNumber}
 use Rattle.judge.specs.Judge.{Claim, claimOf, caseAt, caseVerdict, verdict, judgeRule}
 use Rattle.judge.specs.Settle.{settledBy, settleRule}
 use Rattle.distance.specs.Distance.{offBy, unitsOf, distanceRule}
+use Rattle.step.specs.Entry.{stepFrom, steppedAs, stepRule, judgedAs, judgedRule}
 use Rattle.claims.specs.Form.{twenty}
 use Rattle.claims.specs.Record.{claimAt, answerAt}
 use Rattle.claims.specs.AnswerByte.{AnswerByte}
@@ -37,6 +39,8 @@ Gives code answer given = code answer ≡ number done → answer ≡ given
 pub record Rules : Type 0 where
   -- R16
   pub sine : (x d : ℕ) → Gives (λ r. r .code) (sineRule x d) (record { code = number done; lo = Lo x d; hi = Hi x d })
+  -- R74
+  pub cosine : (x d : ℕ) → Gives (λ r. r .code) (cosineRule x d) (record { code = number done; lo = CosLo x d; hi = CosHi x d })
   -- R24
   pub lower-end : (x : ℤ) (g : Given) (d : ℕ) → Gives (λ r. r .code) (lowerRule x g d) (flagged (endOf false g d x))
   pub upper-end : (x : ℤ) (g : Given) (d : ℕ) → Gives (λ r. r .code) (upperRule x g d) (flagged (endOf true g d x))
@@ -51,6 +55,11 @@ pub record Rules : Type 0 where
       → Gives (λ r. r .code) (settleRule g x n) (settledBy (caseAt (claimOf g x n depths)))
   -- R68
   pub distance : (g : Given) (x : Float) → Gives (λ r. r .code) (distanceRule g x) (offBy (foundEnds (cellOf g) depths) (unitsOf g x))
+  -- R78: the operations in their order, and what is handed over
+  pub step : (m : ℤ) (a : ℕ) (x : Float) (method : ℕ) → Gives (λ r. r .code) (stepRule m a x method) (steppedAs (stepFrom m a x method))
+  -- R79: the same step, judged
+  pub step-judged : (m : ℤ) (a : ℕ) (x : Float) (method n d : ℕ)
+      → Gives (λ r. r .code) (judgedRule m a x method n d) (judgedAs m a n d (stepFrom m a x method))
   -- R51
   pub count : (claims answers : List ℕ)
       → Gives (λ r. r .code) (batchOf claims answers) (batchWith (number done) (length claims / twenty .width))

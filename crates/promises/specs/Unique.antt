@@ -21,6 +21,10 @@ use Rattle.series.specs.Walk.{spentAt}
 use Rattle.series.specs.Entry.{sineRule}
 use Rattle.series.specs.declared.Walk.{Walk}
 use Rattle.series.specs.declared.Bounds.{Bounds}
+use Rattle.series.specs.Asked.{askedFor}
+use Rattle.series.specs.declared.Asked.{Asked}
+use Rattle.series.specs.declared.Biased.{Biased}
+use Rattle.cosine.specs.Cosine.{cosineRule}
 use Rattle.orbit.specs.Mirror as mirrors
 use Rattle.orbit.specs.Mirror.{mirrorEnd}
 use Rattle.orbit.specs.Cell.{gridCell}
@@ -45,6 +49,9 @@ use Rattle.judge.specs.declared.Settled.{Settled}
 use Rattle.judge.specs.declared.Verdict.{Verdict}
 use Rattle.distance.specs.Distance.{distanceRule}
 use Rattle.distance.specs.declared.Off.{Off}
+use Rattle.step.specs.Entry.{stepRule, judgedRule}
+use Rattle.step.specs.declared.Stepped.{Stepped}
+use Rattle.step.specs.declared.JudgedStep.{JudgedStep}
 use Rattle.claims.specs.Form.{twenty}
 use Rattle.claims.specs.Batch.{batchRule, answersAfter}
 use Rattle.claims.specs.declared.Batch.{Batch}
@@ -69,6 +76,7 @@ pub record FileAllows (input before : List ℕ) (l : Left ℕ) : Type 0 where
 
 pub record Unique : Type 0 where
   pub sine : (x depth : ℕ) → OneResult (λ (r : Bounds). r ≡ sineRule x depth)
+  pub cosine : (x depth : ℕ) → OneResult (λ (r : Bounds). r ≡ cosineRule x depth)
   pub lower-end : (x : ℤ) (g : Given) (depth : ℕ) → OneResult (λ (r : End). r ≡ lowerRule x g depth)
   pub upper-end : (x : ℤ) (g : Given) (depth : ℕ) → OneResult (λ (r : End). r ≡ upperRule x g depth)
   pub enclose : (g : Given) (depth : ℕ) → OneResult (λ (r : Enclosure). r ≡ enclosureRule g depth)
@@ -76,6 +84,9 @@ pub record Unique : Type 0 where
   pub judge : (claim : Claim) → OneResult (λ (r : Judged). r ≡ judgeRule claim)
   pub settle : (g : Given) (estimate : Float) (n : ℕ) → OneResult (λ (r : Settled). r ≡ settleRule g estimate n)
   pub distance : (g : Given) (estimate : Float) → OneResult (λ (r : Off). r ≡ distanceRule g estimate)
+  pub step : (m : ℤ) (a : ℕ) (estimate : Float) (method : ℕ) → OneResult (λ (r : Stepped). r ≡ stepRule m a estimate method)
+  pub step-judged : (m : ℤ) (a : ℕ) (estimate : Float) (method n depth : ℕ)
+      → OneResult (λ (r : JudgedStep). r ≡ judgedRule m a estimate method n depth)
   pub judge-claims : (claims before : List ℕ) → OneResult (BatchAllows claims before)
   -- the checked constructors, and a double in units
   pub angle : (units : ℕ) → OneResult (λ (r : CodedAngle). r ≡ codedAngle units)
@@ -85,11 +96,13 @@ pub record Unique : Type 0 where
   pub cell : (g : Given) → OneResult (λ (r : CodedCell). r ≡ codedCell g)
   pub problem : (g : Given) (depth : ℕ) → OneResult (λ (r : CodedProblem). r ≡ codedProblem g depth)
   pub in-units : (value : Float) (limit code : ℕ) → OneResult (λ (r : CodedUnits). r ≡ codedUnits value limit code)
-  -- the functions that crates share: the program's, the codes', whether a walk's terms are spent, a cell of the grid, the clamps
-  -- into 0 to T, a verdict's number, signs and the mirror
+  -- the functions that crates share: the program's, the codes', what bounds are asked for, a walk's bounds and whether its terms
+  -- are spent, a cell of the grid, the clamps into 0 to T, a verdict's number, signs and the mirror
   pub answer-file : (input before : List ℕ) → OneResult (FileAllows input before)
   pub limited : (n limit code : ℕ) → OneResult (λ (r : ℕ). r ≡ cond (ltb limit n) code (codes.number codes.done))
   pub earlier : (code next : ℕ) → OneResult (λ (r : ℕ). r ≡ codes.earlier code next)
+  pub ask : (x depth : ℕ) → OneResult (λ (r : Asked). r ≡ askedFor x depth)
+  pub best : (w : Walk) → OneResult (λ (r : Biased). r ≡ record { lo = w .greatest; hi = w .least })
   pub spent : (w : Walk) → OneResult (λ (r : Bool). r ≡ spentAt w)
   pub on-grid : (m a : ℕ) → OneResult (λ (r : Cell). r ≡ gridCell m a)
   pub step-down : (x n : ℕ) → OneResult (λ (r : ℕ). r ≡ x - n)

@@ -3,12 +3,12 @@
 use mathlib.Core.Path.{_≡_, refl, sym, ap, _∙_}
 use mathlib.Core.Bool.{Bool, true, false, not, _||_, cond, true≢false}
 use mathlib.Core.Logic.{_⊎_, inl, inr}
-use Prim.Native.Nat.{ℕ}
+use Prim.Native.Nat.{ℕ, suc}
 use native.Mathlib.Omega.{arith}
 use borrow.Author.Tests.{eqb-true}
 use lib.Dec.{eqb}
-use lib.IntN.{ℤ, natAbs}
-use lib.Ieee.{Float, eq}
+use lib.IntN.{ℤ, pos, negsuc, natAbs}
+use lib.Ieee.{Float, neg, eq}
 use Rattle.grid.specs.Grid.{T-units}
 use Rattle.grid.specs.Codes.{number, bad-estimate, Passed, method-check}
 use Rattle.grid.proofs.Outcomes.{of-checked}
@@ -64,13 +64,17 @@ which true t e = inl refl
 which false true e = inr (refl, refl)
 which false false e = absurd (true≢false e)
 
-pub own : (method : ℕ) (mirrored : Bool) (t : Local) → method-check method .fails ≡ false →
+own : (method : ℕ) (mirrored : Bool) (t : Local) → method-check method .fails ≡ false →
     (stepNumber (stepBy method mirrored t) ≡ method) ⊎ (stepNumber (stepBy method mirrored t) ≡ 3)
 own method mirrored t e =
     elim (which (eqb method 1) (eqb method 2) e) [
       | inl p ↦ rw p (own-by Newton method (flat (t .slope) (newtonNew t)) _ (sym (eqb-true method 1 p)))
       | inr p ↦ rw (p .0) (own-by Halley method (flat (halleyDivisor t) (halleyNew t)) _ (sym (eqb-true method 2 (p .1))))
     ]
+
+pub from-own : (m : ℤ) (a : ℕ) (x : Float) (method : ℕ) → method-check method .fails ≡ false →
+    let n = stepNumber (stepFrom m a x method) in (n ≡ method) ⊎ (n ≡ 3)
+from-own m a x method = own method (mirroredOf (grid m a)) (here m a x method)
 
 -- R77: Flat carries nothing
 pub flat-nothing : (t : Taken) → stepNumber t ≡ 3 → stepEstimate t ≡ plus-zero
@@ -119,9 +123,12 @@ no-verdict m a n d (Halley y) e = absurd (let z : ⊥ = omega arith in z)
 no-verdict m a n d Flat e = refl
 
 -- R59: the step of -M from the negative estimate is the mirror of the step of M
-pub step-mirrored : (method : ℕ) (t : Local) → stepBy method true t ≡ mirrorTaken (stepBy method false t)
+step-mirrored : (method : ℕ) (t : Local) → stepBy method true t ≡ mirrorTaken (stepBy method false t)
 step-mirrored method t = by-test (eqb method 1)
   where
     by-test : (b : Bool) → cond b (newtonStep true t) (halleyStep true t) ≡ mirrorTaken (cond b (newtonStep false t) (halleyStep false t))
     by-test true = taken-mirrored Newton (λ y. refl) (t .slope) (newtonNew t)
     by-test false = taken-mirrored Halley (λ y. refl) (halleyDivisor t) (halleyNew t)
+
+pub from-mirrored : (m a : ℕ) (x : Float) (method : ℕ) → stepFrom (negsuc m) a x method ≡ mirrorTaken (stepFrom (pos (suc m)) a (neg x) method)
+from-mirrored m a x method = step-mirrored method (here (negsuc m) a x method)
