@@ -14,5 +14,6 @@ pub mod Figures
 pub mod Distance
 pub mod Further
 pub mod Starred
+pub mod StepNumbers
 pub mod Step
 pub mod Unique

@@ -11,4 +11,5 @@ pub mod Cosine
 pub mod Step
 pub mod Further
 pub mod Starred
+pub mod StepNumbers
 pub mod Unique

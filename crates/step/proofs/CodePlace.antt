@@ -17,11 +17,11 @@ use Rattle.step.specs.declared.Place.{Place}
 use Rattle.step.specs.declared.Taken.{Taken}
 
 abbrev pub placeOf : ℤ → ℕ → Float → Place
-placeOf m a x = let y = posedAs m a x in record { cell = cellOf (grid m a); estimate = y; floor = floorAndCeiling y .floor }
+placeOf m a x = let y = posedAs m a x in record { cell = cellOf (grid m a); estimate = y; units = floorAndCeiling y }
 
 -- the step from a place
 abbrev pub stepAt : ℕ → Place → Bool → Taken
-stepAt method p mirrored = stepBy method mirrored (localAt (p .cell .m .down) (p .cell .a .down) (p .estimate) (p .floor))
+stepAt method p mirrored = stepBy method mirrored (localAt (p .cell .m .down) (p .cell .a .down) (p .estimate) (p .units .floor))
 
 -- what is known of a place and a mark that were made of M, A and an estimate
 pub record Placed (m : ℤ) (a : ℕ) (x : Float) (p : Place) (mirrored : Bool) : Type 0 where
@@ -32,7 +32,7 @@ module _ (m : ℤ) (a : ℕ) (x : Float) (p : Place) (mirrored : Bool) (h : Plac
   pub place-in : Passed (checksOf (grid m a)) → Passed (estimate-check (posedAs m a x) ∷ []) → PlaceIn p
   place-in orbit estimate =
       subst PlaceIn (sym (h .place))
-      (record { cell = cell-in (grid m a) orbit; floor = estimate-fits (posedAs m a x) (estimate .0) .floor })
+      (record { cell = cell-in (grid m a) orbit; units = estimate-fits (posedAs m a x) (estimate .0) })
 
   pub step-is : (method : ℕ) (t : Taken) → t ≡ stepAt method p mirrored → t ≡ stepFrom m a x method
   step-is method t e = e ∙ ap₂ (stepAt method) (h .place) (h .mark)

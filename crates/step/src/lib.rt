@@ -13,6 +13,7 @@ use grid::codes;
 use judge::Judged;
 use orbit::Cell;
 use orbit::Problem;
+use units::Units;
 
 pub mod lows;
 
@@ -47,11 +48,11 @@ pub const HALLEY: u32 = 2;
 
 pub const FLAT: u32 = 3;
 
-// Where a step begins: M and A, the estimate as it is posed, and its floor in units.
+// Where a step begins: M and A, the estimate as it is posed, and that in units.
 pub struct Place {
     cell: Cell,
     estimate: f64,
-    floor: u64,
+    units: Units,
 }
 
 // R76: the estimate E, g = e sin E, the residual F and the slope D.
@@ -73,13 +74,14 @@ fn radians(biased: u64) -> f64
 // R75, R76: each operation is rounded once, and they stand in the rule's order.
 fn local_at(p: Place) -> Local
     requires { ⌜ PlaceIn p ⌝ }
-    ensures { λ r. ⌜ r ≡ localAt (p .cell .m .down) (p .cell .a .down) (p .estimate) (p .floor) ⌝ }
+    ensures { λ r. ⌜ r ≡ localAt (p .cell .m .down) (p .cell .a .down) (p .estimate) (p .units .floor) ⌝ }
 {
     let cell = p.cell;
     let mean = cell.m;
     let shape = cell.a;
     let x = p.estimate;
-    let low = lows::at(Angle { units: p.floor });
+    let u = p.units;
+    let low = lows::at(Angle { units: u.floor });
     let s = radians(low.sine);
     let k = radians(low.cosine);
     let m = (mean.down as f64) / units::RADIAN;
@@ -137,7 +139,7 @@ fn halley(t: Local, mirrored: bool) -> Taken
 // The step of a method.
 fn step_by(p: Place, method: u32, mirrored: bool) -> Taken
     requires { ⌜ PlaceIn p ⌝ }
-    ensures { λ r. ⌜ r ≡ stepBy method mirrored (localAt (p .cell .m .down) (p .cell .a .down) (p .estimate) (p .floor)) ⌝ }
+    ensures { λ r. ⌜ r ≡ stepBy method mirrored (localAt (p .cell .m .down) (p .cell .a .down) (p .estimate) (p .units .floor)) ⌝ }
 {
     let t = local_at(p);
     if method == NEWTON {
@@ -231,11 +233,11 @@ pub fn step(m: i32, a: u32, estimate: f64, method: u32) -> Stepped
         };
     }
     let cell = posed.cell;
-    let u = made.units;
+    let units = made.units;
     let place = Place {
         cell,
         estimate: value,
-        floor: u.floor,
+        units,
     };
     report(step_by(place, method, mirrored))
 }
@@ -261,11 +263,11 @@ pub fn step_judged(m: i32, a: u32, estimate: f64, method: u32, n: u32, depth: u3
     }
     let problem = posed.problem;
     let cell = problem.cell;
-    let u = made.units;
+    let units = made.units;
     let place = Place {
         cell,
         estimate: value,
-        floor: u.floor,
+        units,
     };
     judge_taken(step_by(place, method, mirrored), m, a, n, depth)
 }

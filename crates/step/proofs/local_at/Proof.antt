@@ -18,24 +18,24 @@ use Rattle.step.proofs.local_at.Statement.{statement}
 use Rattle.step.proofs.local_at.Tie as tie
 
 abbrev start : tie.After-at → tie.Start
-start c = c .before .before .before .before
+start c = c .before .before .before .before .before
 
 radians-requires : tie.Need-radians-requires
-radians-requires c κs = rw (c .at .ensures) (low-small sine sine-in-range _ (start c .pre .floor))
+radians-requires c κs = rw (c .at .ensures) (low-small sine sine-in-range _ (start c .pre .units .floor))
 
 radians-requires-2 : tie.Need-radians-requires-2
-radians-requires-2 c κs = rw (c .before .at .ensures) (low-small cosine cosine-in-range _ (start (c .before) .pre .floor))
+radians-requires-2 c κs = rw (c .before .at .ensures) (low-small cosine cosine-in-range _ (start (c .before) .pre .units .floor))
 
 -- s and k
-sine-is : (c : tie.After-radians) → c .radians .result ≡ inRadians (Lo (start (c .before) .args .p .floor) depths)
+sine-is : (c : tie.After-radians) → c .radians .result ≡ inRadians (Lo (start (c .before) .args .p .units .floor) depths)
 sine-is c =
     c .radians .ensures ∙ ap (λ (r : Lows). inRadians (subℕ (r .sine) bias)) (c .before .at .ensures)
-    ∙ low-back sine sine-in-range _ (start (c .before) .pre .floor)
+    ∙ low-back sine sine-in-range _ (start (c .before) .pre .units .floor)
 
-cosine-is : (c : tie.After-radians2) → c .radians2 .result ≡ inRadians (CosLo (start (c .before .before) .args .p .floor) depths)
+cosine-is : (c : tie.After-radians2) → c .radians2 .result ≡ inRadians (CosLo (start (c .before .before) .args .p .units .floor) depths)
 cosine-is c =
     c .radians2 .ensures ∙ ap (λ (r : Lows). inRadians (subℕ (r .cosine) bias)) (c .before .before .at .ensures)
-    ∙ low-back cosine cosine-in-range _ (start (c .before .before) .pre .floor)
+    ∙ low-back cosine cosine-in-range _ (start (c .before .before) .pre .units .floor)
 
 int-to-float-m : tie.Need-int-to-float-m
 int-to-float-m c =

@@ -22,7 +22,7 @@ start c = c .before .before .before .before .before .before
 abbrev place : tie.After-earlier2 → Place
 place c =
     let u = c .before .before .before in
-    record { cell = u .before .before .new .result .cell; estimate = u .before .mirror .result; floor = u .in-units .result .units .floor }
+    record { cell = u .before .before .new .result .cell; estimate = u .before .mirror .result; units = u .in-units .result .units }
 
 -- M and A, the estimate and the method, each with its code
 said : (c : tie.After-earlier2)

@@ -27,7 +27,7 @@ place u =
     record {
       cell = u .before .before .new .result .problem .cell;
       estimate = u .before .mirror .result;
-      floor = u .in-units .result .units .floor;
+      units = u .in-units .result .units;
     }
 
 abbrev units : tie.After-earlier3 → tie.After-in-units
