@@ -5,17 +5,32 @@ use Rattle.series.specs.Terms.{l, u}
 use Rattle.series.specs.Bounds.{evens, odds, rawLow, rawHigh, greatestLow, leastHigh}
 use Rattle.series.specs.Entry.{boundsRule}
 use Rattle.units.specs.Units.{offRange}
+use Rattle.ends.specs.Ends.{belowBy, aboveBy}
+use Rattle.judge.specs.Verdict.{confirmed, refuted, verdictOf}
+use Rattle.judge.specs.Judge.{judgeRule}
 use Rattle.step.specs.Step.{localAt}
 use Rattle.step.specs.Entry.{stepRule, judgedRule}
-use Rattle.promises.specs.StepNumbers.{AllHold, stepRows, StepNumbers}
+use Rattle.promises.specs.StepNumbers.{AllHold, cosineRows, stepRows, judgedRows, StepNumbers}
 
 infixr 4 _and_
 _and_ : {A B : Type 0} → A → B → A × B
 p and q = (p, q)
 
-rows : AllHold stepRows
-unfolding stepRows boundsRule l u evens odds rawLow rawHigh greatestLow leastHigh neg eq ofInt sub mul div ofBits offRange localAt stepRule judgedRule
-rows = refl and refl and tt
+of-cosine : AllHold cosineRows
+unfolding cosineRows boundsRule l u evens odds rawLow rawHigh greatestLow leastHigh
+of-cosine =
+    refl and refl and refl and refl and refl and refl and refl and refl and refl and refl and refl and refl and refl and tt
+
+of-steps : AllHold stepRows
+unfolding stepRows l u evens odds rawLow rawHigh greatestLow leastHigh neg eq ofInt sub mul div ofBits offRange localAt stepRule
+of-steps =
+    refl and refl and refl and refl and refl and refl and refl and refl and refl and refl and refl and refl and refl and refl and refl
+    and refl and refl and refl and tt
+
+of-judged : AllHold judgedRows
+unfolding judgedRows l u evens odds rawLow rawHigh greatestLow leastHigh belowBy aboveBy neg eq ofInt sub mul div ofBits offRange localAt verdictOf confirmed refuted judgeRule judgedRule
+of-judged =
+    refl and refl and refl and refl and refl and refl and refl and refl and refl and refl and refl and refl and tt
 
 pub step-numbers : StepNumbers
-step-numbers = record { rows = rows }
+step-numbers = record { cosine = of-cosine; step = of-steps; judged = of-judged }
