@@ -27,6 +27,7 @@ use Rattle.step.specs.Entry.{posedAs, stepFrom, stepChecks, unstepped, steppedA
 use Rattle.step.specs.declared.Taken.{Taken}
 use Rattle.step.specs.declared.Taken.the-variants.{Newton, Halley, Flat}
 use Rattle.step.specs.declared.JudgedStep.{JudgedStep}
+use Rattle.step.proofs.EitherZero.{step-either, judged-either}
 use Rattle.step.proofs.HandedOver.{mirror-twice}
 use Rattle.step.proofs.InRadians.{radians-value}
 use Rattle.step.proofs.StepLaws.{from-within, from-zero, from-own, flat-nothing, judge-not-4, step-not-4, judged-of, verdict-of, no-verdict, from-mirrored}
@@ -169,6 +170,7 @@ few (pos n) w = let h = w .high in omega arith
 few (negsuc n) w = let h = w .low in omega arith
 
 pub steps-met : Steps
+unfolding neg
 steps-met =
     record {
       exact = λ z h. alike.value-in-units (inRadians z) z (radians-value z h);
@@ -176,6 +178,8 @@ steps-met =
       cosine-few = λ X h. few _ (greatest-in cosine X (cosine-in-range X h) depths (lit≤ tt));
       step = step-true;
       judged = judged-true;
+      either-zero = λ m a method. step-either m a method true false;
+      judged-either-zero = λ m a method. judged-either m a method true false;
       mirrored = mirrored;
       judged-mirrored = judged-mirrored;
     }

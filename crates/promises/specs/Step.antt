@@ -57,6 +57,9 @@ pub record Steps : Type 0 where
   -- R79
   pub judged : (m : ℤ) (a : ℕ) (x : Float) (method n d : ℕ) → judgedRule m a x method n d .code ≡ number done
       → JudgedTrue m a x method n d (judgedRule m a x method n d)
+  -- R41: either zero as an estimate is 0
+  pub either-zero : (m : ℤ) (a method : ℕ) → stepRule m a (neg plus-zero) method ≡ stepRule m a plus-zero method
+  pub judged-either-zero : (m : ℤ) (a method n d : ℕ) → judgedRule m a (neg plus-zero) method n d ≡ judgedRule m a plus-zero method n d
   -- R59: the step of -M is the mirror of the step of M
   pub mirrored : (m a : ℕ) (x : Float) (method : ℕ)
       → stepRule (negsuc m) a x method ≡ mirrorStepped (stepRule (pos (suc m)) a (neg x) method)

@@ -3,6 +3,7 @@ pub mod CodeFlat
 pub mod CodeJudge
 pub mod CodePlace
 pub mod CodeUnits
+pub mod EitherZero
 pub mod HandedOver
 pub mod InRadians
 pub mod StepLaws
