@@ -13,6 +13,7 @@ from fractions import Fraction
 from pathlib import Path
 
 LEFT_OUT = "..."
+EXAMPLES = ("examples/first.c", "examples/flattered.c", "examples/newton.c")
 FOLDERS = "scripts|examples|docs|include|tests|bench|crates|plot"
 ECCENTRICITIES = ("0", "0.5", "0.9", "0.99", "0.999")
 ONE, N_MAX = 2 ** 28, 65535
@@ -51,20 +52,30 @@ def held(name, shown, real, may_leave_out=False):
                                     "")
 
 
+def function(source, name):
+    """The lines of one function of a C file, with the comment above it."""
+    found = re.search(rf"^/\* .* \*/\nstatic .*\b{name}\((?s:.*?)^}}$", source,
+                      re.M)
+    return found[0].splitlines() if found else []
+
+
 def check_blocks(text, output):
-    """The code block is the first example; the blocks of output are those of
-    both examples, of which the second may leave rows out."""
+    """The first block of code is the first example, the second the loop of
+    the last one; the blocks of output are those of all examples, of which any
+    but the first may leave rows out."""
     shell, code, printed = (blocks(text, language)
                             for language in ("sh", "c", "text"))
-    if (len(shell), len(code), len(printed), text.count("```")) != (1, 1, 2, 8):
-        yield "there are other blocks than one sh, one c and two text"
+    if (len(shell), len(code), len(printed),
+            text.count("```")) != (1, 2, 3, 12):
+        yield "there are other blocks than one sh, two c and three text"
         return
-    first, second = "examples/first.c", "examples/flattered.c"
+    first, last = EXAMPLES[0], EXAMPLES[-1]
     yield from held(first, code[0], Path(first).read_text().splitlines())
+    yield from held(last, code[1], function(Path(last).read_text(), "iterate"))
     run = sections(output)
-    yield from held(f"{first}'s output", printed[0], run.get(first, []))
-    yield from held(f"{second}'s output", printed[1], run.get(second, []),
-                    True)
+    for name, shown in zip(EXAMPLES, printed):
+        yield from held(f"{name}'s output", shown, run.get(name, []),
+                        name != first)
 
 
 def figures(e):
