@@ -7,7 +7,7 @@
 ** takes none, is called with four tolerances, and held against the library's
 ** own judge too, tried at one depth after the other. distance, which takes
 ** neither, is called with four estimates in place of one. agree_double.c has
-** the entries that take M and e as doubles.
+** the entries that take M and e as doubles, agree_step.c cosine and steps.
 */
 #include <math.h>
 #include <stdio.h>
@@ -232,5 +232,6 @@ int sides_agree(void)
     compare_inputs(-1);
     compare_limits();
     compare_doubles();
+    compare_steps();
     return none_differ();
 }

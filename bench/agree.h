@@ -10,4 +10,7 @@ int sides_agree(void);
 /* Its part with M and e as doubles: compares, counts, prints differences. */
 void compare_doubles(void);
 
+/* The same with cosine and steps. */
+void compare_steps(void);
+
 #endif

@@ -2,6 +2,7 @@
 ** answers.c: answers of both sides, number by number, and how many differ.
 */
 #include <stdio.h>
+#include <string.h>
 
 #include "answers.h"
 
@@ -39,6 +40,24 @@ int same_settled(struct stripeawn_settled s, struct stripeawn_settled p)
 int same_off(struct stripeawn_off s, struct stripeawn_off p)
 {
     return s.code == p.code && s.least == p.least && s.most == p.most;
+}
+
+static int same_bits(double s, double p)
+{
+    return memcmp(&s, &p, sizeof s) == 0;
+}
+
+int same_steps(struct stripeawn_stepped s, struct stripeawn_stepped p)
+{
+    return s.code == p.code && s.step == p.step &&
+           same_bits(s.estimate, p.estimate);
+}
+
+int same_judged_steps(struct stripeawn_judged_step s,
+                      struct stripeawn_judged_step p)
+{
+    return s.code == p.code && s.step == p.step &&
+           same_bits(s.estimate, p.estimate) && s.verdict == p.verdict;
 }
 
 struct stripeawn_settled in_turn(

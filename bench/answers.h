@@ -20,6 +20,12 @@ int same_settled(struct stripeawn_settled s, struct stripeawn_settled p);
 
 int same_off(struct stripeawn_off s, struct stripeawn_off p);
 
+/* Of doubles every bit is, so that plus zero is not minus zero. */
+int same_steps(struct stripeawn_stepped s, struct stripeawn_stepped p);
+
+int same_judged_steps(struct stripeawn_judged_step s,
+                      struct stripeawn_judged_step p);
+
 /* What settle has to answer, by the judge's answers at depths 1 to 5. */
 struct stripeawn_settled in_turn(
     const struct stripeawn_verdict judged[STRIPEAWN_DEPTH_MAX]);

@@ -12,44 +12,22 @@
 ** the judge; what it costs to have a distance made of an enclosure; and at
 ** which depths settle decides, of CLAIMS claims of each kind.
 **
-** The library makes no more terms of sine once they are spent: after one pair
-** at small angles, which are most of what an enclosure tests near M = 0. The
-** plain C version has no such stop, so that the two rows with such inputs
-** show what stopping gains.
+** The library makes no more terms of a series once they are spent: after one
+** pair at small angles, which are most of what an enclosure tests near M = 0.
+** The plain C version has no such stop, so that the three rows with such
+** inputs show what stopping gains. bench_step.c has cosine and steps.
 */
 #include <stdio.h>
 #include <stdlib.h>
 
 #include "agree.h"
-#include "inputs.h"
-#include "plain.h"
+#include "bench_step.h"
+#include "both_sides.h"
 #include "shares.h"
 #include "timing.h"
 
 /* Which doubles the passes over doubles take. */
 static const struct doubles *given;
-
-/*
-** The same loop for both sides: CALL gives the sum of one call's numbers
-** with the entry named by the prefix P, stripeawn or plain.
-*/
-#define BOTH_SIDES(name, CALL)                                              \
-    static uint64_t library_##name(void)                                    \
-    {                                                                       \
-        uint64_t sum = 0;                                                   \
-        int i;                                                              \
-        for (i = 0; i < INPUTS; i++)                                        \
-            CALL(stripeawn)                                                 \
-        return sum;                                                         \
-    }                                                                       \
-    static uint64_t plain_##name##_pass(void)                               \
-    {                                                                       \
-        uint64_t sum = 0;                                                   \
-        int i;                                                              \
-        for (i = 0; i < INPUTS; i++)                                        \
-            CALL(plain)                                                     \
-        return sum;                                                         \
-    }
 
 #define SINE_OF(P, X) {                                                     \
         struct stripeawn_bounds r = P##_sine(X, DEPTH);                     \
@@ -164,6 +142,7 @@ static void measure_grid(long rounds)
     measure("sine", library_sine, plain_sine_pass, rounds);
     measure("sine, X < 2^20", library_sine_small, plain_sine_small_pass,
             rounds);
+    measure_cosine(rounds);
     measure("lower_end", library_lower, plain_lower_pass, rounds);
     measure("upper_end", library_upper, plain_upper_pass, rounds);
     measure("enclose", library_enclose, plain_enclose_pass, rounds);
@@ -175,6 +154,7 @@ static void measure_grid(long rounds)
     measure("judge", library_judge, plain_judge_pass, rounds);
     measure("settle", library_settle, plain_settle_pass, rounds);
     measure("distance", library_distance, plain_distance_pass, rounds);
+    measure_steps(rounds);
     measure("judge_claims, a claim", library_batch, plain_batch_pass, rounds);
 }
 
@@ -248,8 +228,8 @@ static void measure_distance(long rounds)
 
 static void measure_all(long rounds)
 {
-    printf("nanoseconds a call at depth 5 (settle and distance take none), "
-           "least of %ld rounds\n", rounds);
+    printf("nanoseconds a call at depth 5 (settle, distance and step take "
+           "none), least of %ld rounds\n", rounds);
     print_heading("library", "plain C");
     measure_grid(rounds);
     measure_doubles(rounds);

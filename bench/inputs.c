@@ -13,12 +13,13 @@ uint8_t claims[STRIPEAWN_CLAIM_BYTES * INPUTS];
 struct doubles on_grid[INPUTS], off_grid[INPUTS];
 int32_t small_anomalies[INPUTS], small_angles[INPUTS];
 uint32_t great_eccentricities[INPUTS];
+struct start starts[INPUTS];
+
+static uint64_t state = UINT64_C(88172645463325252);
 
 /* A fixed sequence of numbers from 0 to the limit (Marsaglia's xorshift). */
 static uint32_t draw(uint32_t limit)
 {
-    static uint64_t state = UINT64_C(88172645463325252);
-
     state ^= state << 13;
     state ^= state >> 7;
     state ^= state << 17;
@@ -121,6 +122,36 @@ static void make_small_inputs(void)
     }
 }
 
+/* Where a loop of steps begins, where it ends, or anywhere. */
+static double any_estimate(int32_t m, uint32_t a)
+{
+    uint32_t place = draw(2);
+
+    if (place == 0)
+        return m * STRIPEAWN_UNIT;
+    if (place == 1)
+        return less_a_part(near_root(plain_enclose(m, a, DEPTH).lower));
+    return less_a_part(draw(STRIPEAWN_X_MAX));
+}
+
+/* By a sequence of its own: claims drawn afterwards stay what they were. */
+static void make_starts(void)
+{
+    uint64_t kept = state;
+    int i;
+
+    state = UINT64_C(6364136223846793005);
+    for (i = 0; i < INPUTS; i++) {
+        int32_t m = any_anomaly(), sign = draw(1) != 0 ? -1 : 1;
+        uint32_t a = any_eccentricity();
+        struct start s = { sign * m, a, STRIPEAWN_NEWTON + draw(1), 0.0 };
+
+        s.estimate = sign * any_estimate(m, a);
+        starts[i] = s;
+    }
+    state = kept;
+}
+
 struct doubles draw_orbit(enum orbits kind)
 {
     int parabolic = kind == NEAR_PARABOLIC, off = kind == ANY_OFF_GRID;
@@ -167,4 +198,5 @@ void make_inputs(void)
     make_grid_inputs();
     make_double_inputs();
     make_small_inputs();
+    make_starts();
 }

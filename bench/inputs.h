@@ -26,6 +26,15 @@ extern struct doubles on_grid[INPUTS], off_grid[INPUTS];
 extern int32_t small_anomalies[INPUTS], small_angles[INPUTS];
 extern uint32_t great_eccentricities[INPUTS];
 
+/* What a step is given. */
+struct start {
+    int32_t m;
+    uint32_t a, method;
+    double estimate;
+};
+
+extern struct start starts[INPUTS];
+
 /*
 ** Any orbit with M not below 0, an angle near its root, and an estimate some
 ** units off it. The doubles on the grid are the same orbits, angles and
@@ -34,6 +43,10 @@ extern uint32_t great_eccentricities[INPUTS];
 ** Then near-parabolic orbits near M = 0, with M below 16 and A within 4096 of
 ** 2^28, as in examples/flattered.c; and angles below 2^20, about as great as
 ** the roots of these orbits are.
+**
+** Then where steps are taken from: any orbit with M of either sign, either
+** method, and an estimate at M, near the root or anywhere, off the grid but
+** for M.
 */
 void make_inputs(void);
 

@@ -3,12 +3,15 @@
 **
 ** Written to be read beside the rules: two running terms for sine, two
 ** binary searches for an enclosure or a distance, fifty rotations for a
-** proposal, four ends for a verdict, which plain_sine.h, plain_cell.h and
-** plain_judge.h have. All this is for M not below 0; plain_mirror.c has the
-** entries for every M. On the grid a cell is one point.
+** proposal, four ends for a verdict, a few doubles for a step, which
+** plain_sine.h, plain_cosine.h, plain_cell.h, plain_judge.h and plain_step.h
+** have. All this is for M not below 0; plain_mirror.c has the entries for
+** every M. On the grid a cell is one point.
 */
 #include "plain_cell.h"
+#include "plain_cosine.h"
 #include "plain_judge.h"
+#include "plain_step.h"
 #include "unmirrored.h"
 
 /* Of a point both roundings are the number itself. */
@@ -54,6 +57,20 @@ struct stripeawn_bounds plain_sine(uint32_t x, uint32_t depth)
     return answer;
 }
 
+struct stripeawn_bounds plain_cosine(uint32_t x, uint32_t depth)
+{
+    uint32_t code = angle_code(x, orbit_code(0, 0, depth));
+    struct stripeawn_bounds answer = { code, 0, 0 };
+    struct series s;
+
+    if (answer.code != 0)
+        return answer;
+    s = cosine_bounds(x, depth);
+    answer.lo = s.lo;
+    answer.hi = s.hi;
+    return answer;
+}
+
 struct stripeawn_end unmirrored_lower_end(uint32_t x, uint32_t m, uint32_t a,
                                           uint32_t depth)
 {
@@ -94,4 +111,19 @@ struct stripeawn_off unmirrored_distance(uint32_t m, uint32_t a,
                                          double estimate)
 {
     return distance(point(m, a, 5), estimate);
+}
+
+struct stripeawn_stepped unmirrored_step(uint32_t m, uint32_t a,
+                                         double estimate, uint32_t method)
+{
+    return step(point(m, a, 5), estimate, method);
+}
+
+struct stripeawn_judged_step unmirrored_step_judged(uint32_t m, uint32_t a,
+                                                    double estimate,
+                                                    uint32_t method,
+                                                    uint32_t n,
+                                                    uint32_t depth)
+{
+    return step_judged(point(m, a, depth), estimate, method, n);
 }

@@ -11,6 +11,8 @@
 
 struct stripeawn_bounds plain_sine(uint32_t x, uint32_t depth);
 
+struct stripeawn_bounds plain_cosine(uint32_t x, uint32_t depth);
+
 struct stripeawn_end plain_lower_end(int32_t x, int32_t m, uint32_t a,
                                      uint32_t depth);
 
@@ -29,6 +31,14 @@ struct stripeawn_settled plain_settle(int32_t m, uint32_t a, double estimate,
                                       uint32_t n);
 
 struct stripeawn_off plain_distance(int32_t m, uint32_t a, double estimate);
+
+struct stripeawn_stepped plain_step(int32_t m, uint32_t a, double estimate,
+                                    uint32_t method);
+
+struct stripeawn_judged_step plain_step_judged(int32_t m, uint32_t a,
+                                               double estimate,
+                                               uint32_t method, uint32_t n,
+                                               uint32_t depth);
 
 struct stripeawn_end plain_lower_end_double(int32_t x, double m, double e,
                                             uint32_t depth);

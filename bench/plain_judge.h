@@ -60,10 +60,11 @@ static struct stripeawn_settled decided(uint32_t verdict, uint32_t depth)
 
 /*
 ** The verdict on a claim whose codes have all been tested, and the least of
-** the depths tried that gives it. At most one end refutes a claim.
+** the depths tried that gives it. At most one end refutes a claim. It is
+** inline so that a call at one depth has nothing of those that try each.
 */
-static struct stripeawn_settled decide(struct cell c, double estimate,
-                                       uint32_t n, uint32_t depth)
+static inline struct stripeawn_settled decide(struct cell c, double estimate,
+                                              uint32_t n, uint32_t depth)
 {
     struct span s = in_units(estimate);
     uint32_t p = s.up > n ? s.up - n : 0;

@@ -146,3 +146,34 @@ struct stripeawn_off plain_distance_double(double m, double e,
     return unmirrored_distance_double(unmirrored_double(m, m < 0), e,
                                       unmirrored_double(estimate, m < 0));
 }
+
+/* 0.0 less it, and not its negative: zero stays plus zero. */
+static double mirror_estimate(double estimate, int mirrored)
+{
+    return mirrored ? 0.0 - estimate : estimate;
+}
+
+struct stripeawn_stepped plain_step(int32_t m, uint32_t a, double estimate,
+                                    uint32_t method)
+{
+    struct stripeawn_stepped r =
+        unmirrored_step(unmirrored(m, m < 0), a,
+                        unmirrored_double(estimate, m < 0), method);
+
+    r.estimate = mirror_estimate(r.estimate, m < 0);
+    return r;
+}
+
+struct stripeawn_judged_step plain_step_judged(int32_t m, uint32_t a,
+                                               double estimate,
+                                               uint32_t method, uint32_t n,
+                                               uint32_t depth)
+{
+    struct stripeawn_judged_step r =
+        unmirrored_step_judged(unmirrored(m, m < 0), a,
+                               unmirrored_double(estimate, m < 0), method, n,
+                               depth);
+
+    r.estimate = mirror_estimate(r.estimate, m < 0);
+    return r;
+}

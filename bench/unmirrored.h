@@ -30,6 +30,15 @@ struct stripeawn_settled unmirrored_settle(uint32_t m, uint32_t a,
 struct stripeawn_off unmirrored_distance(uint32_t m, uint32_t a,
                                          double estimate);
 
+struct stripeawn_stepped unmirrored_step(uint32_t m, uint32_t a,
+                                         double estimate, uint32_t method);
+
+struct stripeawn_judged_step unmirrored_step_judged(uint32_t m, uint32_t a,
+                                                    double estimate,
+                                                    uint32_t method,
+                                                    uint32_t n,
+                                                    uint32_t depth);
+
 /* The same of M in radians and e. */
 struct stripeawn_end unmirrored_lower_end_double(uint32_t x, double m,
                                                  double e, uint32_t depth);
