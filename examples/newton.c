@@ -17,7 +17,7 @@
 
 enum { STEPS = 10, DEPTH = 5, NO_LEAST_N = 1000, RADIAN = STRIPEAWN_RADIAN };
 
-/* e, which A rounds down, and M in units. */
+/* Picked to show every ending: e, which A rounds down, and M in units. */
 static const struct orbit { double e; int32_t m; } orbits[] = {
     { 0.0167, RADIAN }, { 0.2, RADIAN * 2 }, { 0.2, -RADIAN / 20 },
     { 0.6, RADIAN }, { 0.6, RADIAN / 100 }, { 0.9, RADIAN },
