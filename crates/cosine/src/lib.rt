@@ -11,6 +11,8 @@ use series::Biased;
 use series::Bounds;
 use series::Walk;
 
+pub mod lows;
+
 // The next pair of cosine's terms. Each pair's divisors stand in its own arm, so that the quotients are products.
 fn further(w: Walk) -> Walk
     requires { ⌜ Unfinished cosine w ⌝ }

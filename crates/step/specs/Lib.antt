@@ -1,4 +1,3 @@
 pub mod Step
-pub mod Lows
 pub mod Entry
 pub mod Limits

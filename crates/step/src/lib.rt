@@ -8,14 +8,13 @@ ghost use Rattle.series.specs.Walk.{bias};
 ghost use Rattle.step.specs.Step.{inRadians, localAt, flat, handedOver, newtonStep, halleyStep, stepBy};
 ghost use Rattle.step.specs.Entry.{steppedAs, judgedAs, stepRule, judgedRule};
 ghost use Rattle.step.specs.Limits.{PlaceIn};
+use cosine::lows;
 use grid::Angle;
 use grid::codes;
 use judge::Judged;
 use orbit::Cell;
 use orbit::Problem;
 use units::Units;
-
-pub mod lows;
 
 // R77: the step taken, with the new estimate. Flat hands nothing over.
 pub enum Taken {

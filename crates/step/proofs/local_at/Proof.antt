@@ -12,7 +12,7 @@ use Rattle.series.proofs.CodeRange.{sine-in-range}
 use Rattle.cosine.specs.Cosine.{cosine, CosLo}
 use Rattle.cosine.proofs.CosineTerms.{cosine-in-range}
 use Rattle.step.specs.Step.{inRadians, localAt}
-use Rattle.step.specs.declared.lows.Lows.{Lows}
+use Rattle.cosine.specs.declared.lows.Lows.{Lows}
 use Rattle.step.proofs.CodeUnits.{few, low-small, low-back}
 use Rattle.step.proofs.local_at.Statement.{statement}
 use Rattle.step.proofs.local_at.Tie as tie

@@ -1,7 +1,7 @@
 // Lo of sine and of cosine at depth 5, at one angle.
 ghost use mathlib.Core.Path.{_≡_};
 ghost use Rattle.grid.specs.Limits.{AngleIn};
-ghost use Rattle.step.specs.Lows.{lowsAt};
+ghost use Rattle.cosine.specs.Lows.{lowsAt};
 use grid::Angle;
 
 // Both, biased as the series' bounds are.

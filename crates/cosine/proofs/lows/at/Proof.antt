@@ -1,4 +1,4 @@
--- `step::lows::at` meets its contract: five pairs of terms of either series, one after the other. Assumes nothing.
+-- `cosine::lows::at` meets its contract: five pairs of terms of either series, one after the other. Assumes nothing.
 use mathlib.Core.Path.{_≡_, ap₂, _∙_}
 use native.Mathlib.Omega.{arith}
 use lib.Dec.{lit<, lit≤}
@@ -8,10 +8,10 @@ use Rattle.series.specs.declared.Walk.{Walk}
 use Rattle.series.proofs.CodeRange.{sine-in-range}
 use Rattle.series.proofs.CodePair.{pair-fits, paired}
 use Rattle.series.proofs.CodeWalk.{begins}
 use Rattle.cosine.specs.Cosine.{cosine}
 use Rattle.cosine.proofs.CosineTerms.{cosine-in-range}
-use Rattle.step.proofs.lows.at.Statement.{statement}
-use Rattle.step.proofs.lows.at.Tie as tie
+use Rattle.cosine.proofs.lows.at.Statement.{statement}
+use Rattle.cosine.proofs.lows.at.Tie as tie
 
 -- the call, seen from after each pair
 abbrev call-1 : tie.After-deepen → tie.Start
