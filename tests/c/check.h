@@ -112,6 +112,7 @@ void put_claim(uint8_t *record, int32_t m, uint32_t a, double estimate,
 /* The groups of checks, one to a file. */
 void test_header(void);
 void test_sine(void);
+void test_cosine(void);
 void test_ends(void);
 void test_spent(void);
 void test_top(void);

@@ -7,6 +7,7 @@ int main(void)
 {
     test_header();
     test_sine();
+    test_cosine();
     test_ends();
     test_spent();
     test_top();
