@@ -19,6 +19,9 @@ int main(void)
     test_settle_limits();
     test_distance();
     test_distance_laws();
+    test_step();
+    test_step_limits();
+    test_step_judged();
     test_figures();
     test_mirror();
     test_estimates();
