@@ -132,6 +132,7 @@ void test_mirror(void);
 void test_estimates(void);
 void test_order(void);
 void test_doubles_order(void);
+void test_step_order(void);
 void test_doubles(void);
 void test_cells(void);
 void test_roots(void);

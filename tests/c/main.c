@@ -27,6 +27,7 @@ int main(void)
     test_estimates();
     test_order();
     test_doubles_order();
+    test_step_order();
     test_doubles();
     test_cells();
     test_roots();

@@ -1,6 +1,7 @@
 /*
 ** order.c: with several bad inputs at once, the first code in the order is
-** given: 9, 1, 2, 3, 10, 4, 5, 6.
+** given: 9, 1, 2, 3, 10, 4, 5, 6. Cosine's are in cosine.c, and those of
+** steps, whose 21 comes last, in step_order.c.
 **
 ** Each input runs over good and bad values, and all inputs against each
 ** other, so that every pair of codes of an entry meets.
@@ -56,17 +57,14 @@ static const uint64_t estimates[] = {
 static const uint64_t signs[] = { 0, SIGN };
 
 /* No comparison holds of a NaN, and the two zeros are equal. */
-static uint32_t estimate_code(double estimate, double m)
+uint32_t estimate_code(double estimate, double m)
 {
     double size = m < 0 ? -estimate : estimate;
 
     return size >= 0 && size <= units(T) ? 0 : 4;
 }
 
-#define EACH(i, table) for (i = 0; i < COUNT(table); i++)
-
-/* The first code that is not 0, or 0. */
-static uint32_t first(const uint32_t *codes, size_t count)
+uint32_t first(const uint32_t *codes, size_t count)
 {
     size_t i;
 

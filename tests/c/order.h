@@ -22,6 +22,14 @@ struct way {
     size_t e_count;
 };
 
+#define EACH(i, table) for (i = 0; i < COUNT(table); i++)
+
+/* The first code that is not 0, or 0. */
+uint32_t first(const uint32_t *codes, size_t count);
+
+/* The code that an estimate is due beside M. */
+uint32_t estimate_code(double estimate, double m);
+
 /* Every entry that takes M: all its inputs against each other. */
 void test_way(struct way way);
 
