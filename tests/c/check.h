@@ -127,6 +127,7 @@ void test_distance_laws(void);
 void test_step(void);
 void test_step_limits(void);
 void test_step_judged(void);
+void test_step_laws(void);
 void test_figures(void);
 void test_mirror(void);
 void test_estimates(void);

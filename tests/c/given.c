@@ -91,15 +91,14 @@ uint64_t random_bits(uint64_t *state)
     return *state ^ *state >> 32;
 }
 
-/* From 0 up to 1, with all 53 bits of a double. */
-static double fraction(uint64_t *state)
+double random_fraction(uint64_t *state)
 {
     return ldexp((double)(random_bits(state) >> 11), -53);
 }
 
 struct given random_doubles(uint64_t *state)
 {
-    double m = units(H) * fraction(state), e = fraction(state);
+    double m = units(H) * random_fraction(state), e = random_fraction(state);
     uint64_t kind = random_bits(state) % 4;
     int near = -(int)(random_bits(state) % 32);
 

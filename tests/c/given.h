@@ -39,6 +39,9 @@ struct stripeawn_off distance_of(struct given g, double estimate);
 /* The next of a row of pseudo-random numbers. */
 uint64_t random_bits(uint64_t *state);
 
+/* The same from 0 up to 1, with all 53 bits of a double. */
+double random_fraction(uint64_t *state);
+
 /*
 ** A pseudo-random M and e within their limits, M of either sign. A quarter is
 ** close to the parabolic limit and to M = 0, and a quarter close to pi.

@@ -22,6 +22,7 @@ int main(void)
     test_step();
     test_step_limits();
     test_step_judged();
+    test_step_laws();
     test_figures();
     test_mirror();
     test_estimates();
