@@ -25,6 +25,7 @@ static void check(const char *call, uint32_t code, uint32_t due, bool right)
 static void answered()
 {
     stripeawn_bounds s = stripeawn_sine(1, 1);
+    stripeawn_bounds c = stripeawn_cosine(1, 1);
     stripeawn_end l = stripeawn_lower_end(0, 0, 0, 1);
     stripeawn_end u = stripeawn_upper_end(1, 2, 0, 1);
     stripeawn_enclosure e = stripeawn_enclose(7, 0, 5);
@@ -34,6 +35,7 @@ static void answered()
     stripeawn_off o = stripeawn_distance(7, 0, 9.5 * STRIPEAWN_UNIT);
 
     check("sine", s.code, 0, s.lo == 0 && s.hi == 2);
+    check("cosine", c.code, 0, c.lo == 268435455 && c.hi == 268435457);
     check("lower_end", l.code, 0, l.accepted == 1);
     check("upper_end", u.code, 0, u.accepted == 0);
     check("enclose", e.code, 0, e.lower == 7 && e.upper == 7);
@@ -74,6 +76,7 @@ static void refused()
 {
     const int32_t m = STRIPEAWN_M_MAX, x = STRIPEAWN_X_MAX;
     stripeawn_bounds s = stripeawn_sine(x + 1, 1);
+    stripeawn_bounds c = stripeawn_cosine(x + 1, 1);
     stripeawn_end l = stripeawn_lower_end(x + 1, m, 0, 1);
     stripeawn_end u = stripeawn_upper_end(x, m + 1, 0, 1);
     stripeawn_enclosure e = stripeawn_enclose(m, STRIPEAWN_A_MAX, 1);
@@ -85,6 +88,7 @@ static void refused()
     stripeawn_enclosure least = stripeawn_enclose(INT32_MIN, 0, 1);
 
     check("bad sine", s.code, 10, s.lo == 0 && s.hi == 0);
+    check("bad cosine", c.code, 10, c.lo == 0 && c.hi == 0);
     check("bad lower_end", l.code, 10, l.accepted == 0);
     check("bad upper_end", u.code, 1, u.accepted == 0);
     check("bad enclose", e.code, 6, e.lower == 0 && e.upper == 0);
@@ -95,6 +99,46 @@ static void refused()
     check("bad distance", o.code, 4, o.least == 0 && o.most == 0);
     check("opposing x", opposing.code, 10, opposing.accepted == 0);
     check("least M", least.code, 1, least.lower == 0 && least.upper == 0);
+}
+
+// Steps from 1 radian to M, where A is 0, and one that is flat.
+static void steps()
+{
+    const double seven = 7 * STRIPEAWN_UNIT;
+    stripeawn_stepped s = stripeawn_step(7, 0, 1.0, STRIPEAWN_NEWTON);
+    stripeawn_stepped mirror = stripeawn_step(-7, 0, -1.0, STRIPEAWN_HALLEY);
+    stripeawn_stepped flat =
+        stripeawn_step(0, STRIPEAWN_A_MAX, 0.0, STRIPEAWN_HALLEY);
+    stripeawn_judged_step j =
+        stripeawn_step_judged(7, 0, 1.0, STRIPEAWN_HALLEY, 0, 5);
+    stripeawn_judged_step none =
+        stripeawn_step_judged(0, STRIPEAWN_A_MAX, 0.0, STRIPEAWN_NEWTON, 0, 5);
+
+    check("step", s.code, 0, s.step == 1 && s.estimate == seven);
+    check("step, M < 0", mirror.code, 0, mirror.step == 2 &&
+                                             mirror.estimate == -seven);
+    check("flat step", flat.code, 0, flat.step == 3 && flat.estimate == 0);
+    check("step_judged", j.code, 0, j.step == 2 && j.estimate == seven &&
+                                        j.verdict == STRIPEAWN_CONFIRMED);
+    check("flat step_judged", none.code, 0,
+          none.step == 3 && none.estimate == 0 && none.verdict == 0);
+}
+
+static void refused_steps()
+{
+    const double nan = std::numeric_limits<double>::quiet_NaN();
+    stripeawn_stepped s = stripeawn_step(7, 0, 1.0, STRIPEAWN_FLAT);
+    stripeawn_stepped no = stripeawn_step(7, 0, nan, 0);
+    stripeawn_judged_step j = stripeawn_step_judged(7, 0, 1.0, 0, 0, 5);
+    stripeawn_judged_step d = stripeawn_step_judged(7, 0, nan, 0, 65536, 6);
+
+    check("bad step", s.code, 21, s.step == 0 && s.estimate == 0);
+    check("step from no number", no.code, 4, no.step == 0 &&
+                                                 no.estimate == 0);
+    check("bad step_judged", j.code, 21,
+          j.step == 0 && j.estimate == 0 && j.verdict == 0);
+    check("step_judged of no depth", d.code, 3,
+          d.step == 0 && d.estimate == 0 && d.verdict == 0);
 }
 
 // M and e as doubles, off the grid, M of either sign.
@@ -199,6 +243,8 @@ static void figures()
 static void names()
 {
     check("name", 0, 0, std::strcmp(stripeawn_name(16), "Confirmed") == 0);
+    check("name of a code", 0, 0,
+          std::strcmp(stripeawn_name(21), "method neither 1 nor 2") == 0);
     check("no name", 0, 0,
           std::strcmp(stripeawn_name(11), "unknown number") == 0);
 }
@@ -208,6 +254,8 @@ int main()
     answered();
     mirrored();
     refused();
+    steps();
+    refused_steps();
     doubles();
     refused_doubles();
     batches();

@@ -1,7 +1,7 @@
 /*
 ** header.c: the numbers that the header names, their names in words, the
-** layout of results, the types of the entries for doubles and of the figures,
-** and what the notes on these entries say of M in degrees.
+** layout of results, the types of the entries for doubles, of cosine, steps
+** and figures, and what the notes on doubles say of M in degrees.
 */
 #include <math.h>
 #include <stddef.h>
@@ -72,6 +72,10 @@ static void test_codes(void)
     named(HERE, STRIPEAWN_SHORT_ANSWERS, 8);
     named(HERE, STRIPEAWN_BAD_RESERVED, 9);
     named(HERE, STRIPEAWN_BAD_X, 10);
+    named(HERE, STRIPEAWN_BAD_METHOD, 21);
+    named(HERE, STRIPEAWN_NEWTON, 1);
+    named(HERE, STRIPEAWN_HALLEY, 2);
+    named(HERE, STRIPEAWN_FLAT, 3);
     named(HERE, STRIPEAWN_CONFIRMED, 16);
     named(HERE, STRIPEAWN_REFUTED, 17);
     named(HERE, STRIPEAWN_UNDECIDED, 18);
@@ -98,7 +102,7 @@ static void test_version(void)
           "version %s, in numbers %s", STRIPEAWN_VERSION, version);
 }
 
-/* Names of 0 to 18; what is neither code nor verdict has none. */
+/* Names of 0 to 21; what is neither code nor verdict has none. */
 static const char *const names[] = {
     "done",
     "M out of range",
@@ -115,6 +119,8 @@ static const char *const names[] = {
     "Confirmed",
     "Refuted",
     "Undecided",
+    NULL, NULL,
+    "method neither 1 nor 2",
 };
 
 static void name_is(struct place at, uint32_t number, const char *wanted)
@@ -128,7 +134,7 @@ static void name_is(struct place at, uint32_t number, const char *wanted)
 
 static void test_names(void)
 {
-    static const uint32_t others[] = { 19, 20, 255, 256, 272, 65536 + 16,
+    static const uint32_t others[] = { 22, 255, 256, 272, 277, 65536 + 16,
                                        UINT32_C(0x80000000), FAR };
     uint32_t i;
 
@@ -162,6 +168,13 @@ static void test_layout(void)
     named(HERE, sizeof(struct stripeawn_off), 12);
     named(HERE, offsetof(struct stripeawn_off, least), 4);
     named(HERE, offsetof(struct stripeawn_off, most), 8);
+    named(HERE, sizeof(struct stripeawn_stepped), 16);
+    named(HERE, offsetof(struct stripeawn_stepped, step), 4);
+    named(HERE, offsetof(struct stripeawn_stepped, estimate), 8);
+    named(HERE, sizeof(struct stripeawn_judged_step), 24);
+    named(HERE, offsetof(struct stripeawn_judged_step, step), 4);
+    named(HERE, offsetof(struct stripeawn_judged_step, estimate), 8);
+    named(HERE, offsetof(struct stripeawn_judged_step, verdict), 16);
     named(HERE, sizeof(struct stripeawn_batch), 16);
     named(HERE, offsetof(struct stripeawn_batch, count), 8);
 }
@@ -191,6 +204,23 @@ static void test_double_entries(void)
     named(HERE, judge(units(2), 0.0, units(3), 1, 5).verdict, 16);
     named(HERE, settle(units(2), 0.0, units(3), 1).depth, 1);
     named(HERE, distance(units(2), 0.0, units(3)).most, 1);
+}
+
+/* The same of cosine and steps. */
+static void test_step_entries(void)
+{
+    struct stripeawn_bounds (*const cosine)(uint32_t, uint32_t) =
+        stripeawn_cosine;
+    struct stripeawn_stepped (*const step)(int32_t, uint32_t, double,
+                                           uint32_t) = stripeawn_step;
+    struct stripeawn_judged_step (*const judged)(int32_t, uint32_t, double,
+                                                 uint32_t, uint32_t,
+                                                 uint32_t) =
+        stripeawn_step_judged;
+
+    named(HERE, (uint32_t)cosine(1, 5).lo, 268435455);
+    named(HERE, step(-2, 0, -1.0, 2).estimate == units(-2), 1);
+    named(HERE, judged(-2, 0, -1.0, 2, 0, 5).verdict, 16);
 }
 
 /* The same; a width may need more than 32 bits. */
@@ -256,6 +286,7 @@ void test_header(void)
     test_names();
     test_layout();
     test_double_entries();
+    test_step_entries();
     test_figure_types();
     test_greatest_m();
     test_turns();

@@ -10,7 +10,7 @@
 
 #include "check.h"
 
-enum { THREADS = 4, ORBITS = 200, STACK = 65536 };
+enum { THREADS = 4, ORBITS = 200, STEPS = 20000, STACK = 65536 };
 
 /* Sums of everything that one pass over the entries returns. */
 struct sums {
@@ -18,7 +18,7 @@ struct sums {
 };
 
 struct totals {
-    uint64_t sine, answers;
+    uint64_t sine, cosine, answers, steps, judged_steps, judged_verdicts;
     struct sums on_grid, of_doubles;
 };
 
@@ -40,10 +40,28 @@ static void add_given(struct sums *t, struct given g, uint32_t depth)
     t->distances += (uint64_t)o.least * 3 + o.most;
 }
 
+/* The entries that make a step, which take M on the grid. */
+static void add_steps(struct totals *t, int32_t m, uint32_t a,
+                      double estimate, uint32_t depth)
+{
+    uint32_t method;
+
+    for (method = 1; method <= 2; method++) {
+        struct stripeawn_stepped s = stripeawn_step(m, a, estimate, method);
+        struct stripeawn_judged_step j = stripeawn_step_judged(
+            m, a, estimate, method, depth * 9, depth);
+
+        t->steps += to_bits(s.estimate) * 4 + s.step;
+        t->judged_steps += to_bits(j.estimate) * 4 + j.step;
+        t->judged_verdicts += j.verdict;
+    }
+}
+
 /* All entries; M and e as doubles are a third of a unit off the grid. */
 static void add_orbit(struct totals *t, int32_t m, uint32_t a, uint32_t depth)
 {
     struct stripeawn_bounds s = stripeawn_sine(m < 0 ? -m : m, depth);
+    struct stripeawn_bounds c = stripeawn_cosine(m < 0 ? -m : m, depth);
     double estimate = units(stripeawn_propose(m, a).angle);
     struct given off = doubles((m - 1.0 / 3) / ONE, fabs(a - 1.0 / 3) / ONE);
     uint8_t claim[20], answer = 0;
@@ -51,9 +69,32 @@ static void add_orbit(struct totals *t, int32_t m, uint32_t a, uint32_t depth)
     put_claim(claim, m, a, estimate, depth * 9, depth, 0);
     stripeawn_judge_claims(claim, 20, &answer, 1);
     t->sine += (uint64_t)s.lo * 3 + (uint64_t)s.hi;
+    t->cosine += (uint64_t)c.lo * 3 + (uint64_t)c.hi;
     t->answers += answer;
+    add_steps(t, m, a, estimate, depth);
     add_given(&t->on_grid, grid(m, a), depth);
     add_given(&t->of_doubles, off, depth);
+}
+
+/* The next of a row of pseudo-random numbers, below a limit. */
+static uint32_t next(uint32_t *random, uint32_t limit)
+{
+    *random = *random * 1664525 + 1013904223;
+    return *random % limit;
+}
+
+/* Steps by themselves are short, and threads meet in them more often. */
+static void add_all_steps(struct totals *t, uint32_t *random)
+{
+    uint32_t i;
+
+    for (i = 0; i < STEPS; i++) {
+        int32_t size = (int32_t)next(random, H + 1);
+        uint32_t a = next(random, ONE + 1);
+        double far = units((int32_t)next(random, T + 1));
+
+        add_steps(t, i % 2 ? -size : size, a, i % 2 ? -far : far, i % 5 + 1);
+    }
 }
 
 static void *run(void *given)
@@ -64,11 +105,12 @@ static void *run(void *given)
 
     *t = none;
     for (i = 0; i < ORBITS; i++) {
-        int32_t size = (random = random * 1664525 + 1013904223) % (H + 1);
-        uint32_t a = (random = random * 1664525 + 1013904223) % (ONE + 1);
+        int32_t size = (int32_t)next(&random, H + 1);
+        uint32_t a = next(&random, ONE + 1);
 
         add_orbit(t, i % 2 ? -size : size, a, i % 5 + 1);
     }
+    add_all_steps(t, &random);
     return NULL;
 }
 
@@ -81,7 +123,10 @@ static int same_sums(struct sums s, struct sums t)
 
 static int same(const struct totals *s, const struct totals *t)
 {
-    return s->sine == t->sine && s->answers == t->answers &&
+    return s->sine == t->sine && s->cosine == t->cosine &&
+           s->answers == t->answers && s->steps == t->steps &&
+           s->judged_steps == t->judged_steps &&
+           s->judged_verdicts == t->judged_verdicts &&
            same_sums(s->on_grid, t->on_grid) &&
            same_sums(s->of_doubles, t->of_doubles);
 }
@@ -93,6 +138,26 @@ static size_t stack_size(void)
     return least > STACK ? (size_t)least : STACK;
 }
 
+/* One pass has an answer to every orbit, and entries that agree. */
+static void all_answered(const struct totals *t)
+{
+    check(HERE, t->answers == t->on_grid.verdicts && t->answers > 0,
+          "batch and judge differ");
+    check(HERE, t->of_doubles.verdicts >= 16 * ORBITS,
+          "not every orbit as doubles is judged");
+    check(HERE,
+          t->on_grid.settled >= (16 * 6 + 1) * ORBITS &&
+              t->of_doubles.settled >= (16 * 6 + 1) * ORBITS,
+          "not every orbit is settled");
+    check(HERE,
+          t->on_grid.distances >= ORBITS && t->of_doubles.distances >= ORBITS,
+          "not every orbit has a distance");
+    check(HERE, t->steps == t->judged_steps && t->steps != 0,
+          "steps and judged steps differ");
+    check(HERE, t->judged_verdicts >= 16 * STEPS,
+          "fewer than every second step is judged");
+}
+
 void test_threads(void)
 {
     struct totals alone, totals[THREADS];
@@ -101,18 +166,7 @@ void test_threads(void)
     int i, started = 0;
 
     run(&alone);
-    check(HERE, alone.answers == alone.on_grid.verdicts && alone.answers > 0,
-          "batch and judge differ");
-    check(HERE, alone.of_doubles.verdicts >= 16 * ORBITS,
-          "not every orbit as doubles is judged");
-    check(HERE,
-          alone.on_grid.settled >= (16 * 6 + 1) * ORBITS &&
-              alone.of_doubles.settled >= (16 * 6 + 1) * ORBITS,
-          "not every orbit is settled");
-    check(HERE,
-          alone.on_grid.distances >= ORBITS &&
-              alone.of_doubles.distances >= ORBITS,
-          "not every orbit has a distance");
+    all_answered(&alone);
     pthread_attr_init(&small);
     check(HERE, pthread_attr_setstacksize(&small, stack_size()) == 0,
           "no stack of %lu bytes", (unsigned long)stack_size());
