@@ -21,6 +21,9 @@ enum entry {
     JUDGE,
     SETTLE,
     DISTANCE,
+    COSINE,
+    STEP,
+    STEP_JUDGED,
     FIGURES,
     BATCH,
     LOWER_END_DOUBLE,
@@ -34,7 +37,8 @@ enum entry {
 
 struct request {
     uint32_t entry;
-    int32_t x, m; /* x of sine: the 32 bits of an unsigned number */
+    int32_t x, m; /* x of sine and cosine: the 32 bits of an unsigned
+                     number, as is a step's method, which stands there */
     uint32_t a, n, depth;
     uint64_t bits;           /* of the estimate */
     uint64_t m_bits, e_bits; /* of M and e as doubles */
@@ -77,6 +81,14 @@ static double double_of(uint64_t bits)
 
     memcpy(&value, &bits, sizeof value);
     return value;
+}
+
+static int64_t bits_of(double value)
+{
+    int64_t bits;
+
+    memcpy(&bits, &value, sizeof bits);
+    return bits;
 }
 
 static struct reply of_bounds(struct stripeawn_bounds s)
@@ -124,6 +136,20 @@ static struct reply of_settled(struct stripeawn_settled s)
 static struct reply of_off(struct stripeawn_off s)
 {
     struct reply reply = { s.code, s.least, s.most, 0, 0 };
+
+    return reply;
+}
+
+static struct reply of_stepped(struct stripeawn_stepped s)
+{
+    struct reply reply = { s.code, s.step, bits_of(s.estimate), 0, 0 };
+
+    return reply;
+}
+
+static struct reply of_judged_step(struct stripeawn_judged_step s)
+{
+    struct reply reply = { s.code, s.step, bits_of(s.estimate), s.verdict, 0 };
 
     return reply;
 }
@@ -182,11 +208,27 @@ static struct reply ask_double(const struct request *r)
     return none;
 }
 
+static struct reply ask_step(const struct request *r)
+{
+    double estimate = double_of(r->bits);
+    uint32_t method = (uint32_t)r->x;
+
+    if (r->entry == STEP)
+        return of_stepped(stripeawn_step(r->m, r->a, estimate, method));
+    return of_judged_step(stripeawn_step_judged(r->m, r->a, estimate, method,
+                                                r->n, r->depth));
+}
+
 static struct reply ask(const struct request *r)
 {
     switch (r->entry) {
     case SINE:
         return of_bounds(stripeawn_sine((uint32_t)r->x, r->depth));
+    case COSINE:
+        return of_bounds(stripeawn_cosine((uint32_t)r->x, r->depth));
+    case STEP:
+    case STEP_JUDGED:
+        return ask_step(r);
     case LOWER_END:
         return of_end(stripeawn_lower_end(r->x, r->m, r->a, r->depth));
     case UPPER_END:

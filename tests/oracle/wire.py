@@ -6,16 +6,21 @@ from typing import NamedTuple
 from given import Doubles, Grid
 
 # The driver's order. Behind these come the entries of doubles in the same
-# order, each BATCH further on than its entry of the grid; sine and figures
-# have none. The figures are the header's two functions of A, in one reply.
+# order, each BATCH further on than its entry of the grid; sine, cosine, the
+# steps and the figures have none. The figures are the header's two functions
+# of A, in one reply.
 (SINE, LOWER_END, UPPER_END, ENCLOSE, PROPOSE, JUDGE, SETTLE, DISTANCE,
- FIGURES, BATCH) = range(10)
+ COSINE, STEP, STEP_JUDGED, FIGURES, BATCH) = range(13)
 NAMES = ("sine", "lower_end", "upper_end", "enclose", "propose", "judge",
-         "settle", "distance", "figures", "judge_claims")
+         "settle", "distance", "cosine", "step", "step_judged", "figures",
+         "judge_claims")
+SERIES = (SINE, COSINE)
+STEPS = (STEP, STEP_JUDGED)
 
-# M and X are signed, but for the X of sine.
+# M and X are signed, but for the X of sine and cosine. The method of a step,
+# which is not signed either, stands in the place of X.
 REQUEST = struct.Struct("<I2i3I3Q")
-SINE_REQUEST = struct.Struct("<2Ii3I3Q")
+UNSIGNED_REQUEST = struct.Struct("<2Ii3I3Q")
 REPLY = struct.Struct("<5q")
 
 
@@ -28,6 +33,7 @@ class Call(NamedTuple):
     n: int = 0
     depth: int = 0
     bits: int = 0
+    method: int = 0
 
 
 class Batch(NamedTuple):
@@ -72,6 +78,18 @@ def distance(given, bits):
     return Call(DISTANCE, given, bits=bits)
 
 
+def cosine(x, depth):
+    return Call(COSINE, x=x, depth=depth)
+
+
+def step(given, bits, method):
+    return Call(STEP, given, bits=bits, method=method)
+
+
+def step_judged(given, bits, method, n, depth):
+    return Call(STEP_JUDGED, given, 0, n, depth, bits, method)
+
+
 def figures(a):
     return Call(FIGURES, Grid(0, a))
 
@@ -84,8 +102,12 @@ def name(call):
 
 def encode(call):
     entry, given = call.entry, call.given
-    if entry == SINE:
-        return SINE_REQUEST.pack(SINE, call.x, 0, 0, 0, call.depth, 0, 0, 0)
+    if entry in SERIES:
+        return UNSIGNED_REQUEST.pack(entry, call.x, 0, 0, 0, call.depth, 0, 0,
+                                     0)
+    if entry in STEPS:
+        return UNSIGNED_REQUEST.pack(entry, call.method, *given, call.n,
+                                     call.depth, call.bits, 0, 0)
     if entry == BATCH:
         head = REQUEST.pack(BATCH, 0, 0, len(call.claims), call.answers_len,
                             len(call.answers), 0, 0, 0)
@@ -99,7 +121,8 @@ def encode(call):
 
 def decode(calls, data):
     """The reply to each call: code and numbers, or for a batch code, count,
-    the answers buffer and the claims afterwards."""
+    the answers buffer and the claims afterwards. Of a step the second number
+    is the 64 bits of a double, which have no sign."""
     replies, at = [], 0
     for call in calls:
         reply = REPLY.unpack_from(data, at)
@@ -109,6 +132,8 @@ def decode(calls, data):
             end = middle + len(call.claims)
             reply = reply[:2] + (data[at:middle], data[middle:end])
             at = end
+        elif call.entry in STEPS:
+            reply = reply[:2] + (reply[2] % 2 ** 64,) + reply[3:]
         replies.append(reply)
     if at != len(data):
         raise ValueError(f"the driver wrote {len(data)} bytes, not {at}")
