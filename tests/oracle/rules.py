@@ -19,12 +19,16 @@ WORDS = {CONFIRMED: "Confirmed", REFUTED: "Refuted", UNDECIDED: "Undecided"}
 
 # ---- Sine in whole numbers -------------------------------------------------
 
-def terms(x, last):
-    """R10, R11: l_0 to l_last and u_0 to u_last."""
+# R11: of terms 1 to 10
+DIVISORS = [UNIT * 2 * k * (2 * k + 1) for k in range(1, 11)]
+
+
+def terms(first, x, divisors):
+    """R10, R11: l_0 and on, and u_0 and on, of a series with this term 0 and
+    a divisor for each further term."""
     q_minus, q_plus = x * x // UNIT, up(x * x, UNIT)
-    lows, ups = [x], [x]
-    for k in range(1, last + 1):
-        divisor = UNIT * 2 * k * (2 * k + 1)
+    lows, ups = [first], [first]
+    for divisor in divisors:
         lows.append(lows[-1] * q_minus // divisor)
         ups.append(up(ups[-1] * q_plus, divisor))
     return lows, ups
@@ -40,20 +44,28 @@ def raw_high(lows, ups, d):
     return sum(ups[0:2 * d + 1:2]) - sum(lows[1:2 * d + 1:2])
 
 
-@lru_cache(maxsize=20_000)
-def bounds(x, depth):
-    """R13: Lo and Hi."""
-    lows, ups = terms(x, 2 * depth)
+def best(lows, ups, depth):
+    """R13: the greatest raw low and the least raw high."""
     tried = range(1, depth + 1)
     return (max(raw_low(lows, ups, d) for d in tried),
             min(raw_high(lows, ups, d) for d in tried))
 
 
-def spending_pairs(x):
+def pairs_spent(lows, ups):
     """R61: after how many pairs the terms are spent. No rule here stops for
     it."""
-    lows, ups = terms(x, 2 * DEPTHS[-1])
     return next(n for n in DEPTHS if lows[2 * n] == 0 and ups[2 * n] <= 1)
+
+
+@lru_cache(maxsize=20_000)
+def bounds(x, depth):
+    """R13: Lo and Hi."""
+    return best(*terms(x, x, DIVISORS[:2 * depth]), depth)
+
+
+def spending_pairs(x):
+    """R61, of sine."""
+    return pairs_spent(*terms(x, x, DIVISORS))
 
 
 def sine(x, depth):
