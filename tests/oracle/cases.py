@@ -5,7 +5,8 @@ just holds or just fails, an estimate whose tolerance just reaches the root.
 They are drawn for M from 0 up, and half of them are then mirrored. A few have
 an input outside its limit, or one whose sign opposes that of M. Problems are
 drawn by draw_grid, draw_doubles or draw_spent: that is the family of a case.
-Distances are drawn some to an orbit, whose enclosure serves them all.
+Distances are drawn some to an orbit, whose enclosure serves them all. Steps
+are drawn by draw_steps, which has problems of its own.
 """
 from functools import partial
 
@@ -14,6 +15,7 @@ import draw_doubles
 import draw_figures
 import draw_grid
 import draw_spent
+import draw_steps
 import draws
 import records
 import rules
@@ -51,9 +53,10 @@ def orbit(rng, family):
     return given.mirror() if is_mirrored(rng, given) else given
 
 
-def sine_case(rng, angle=draws.angle):
-    return wire.sine(draws.spoil(rng, angle(rng), T),
-                     draws.spoil_depth(rng, draws.depth(rng)))
+def series_case(rng, entry, angle=draws.angle):
+    """Of sine or cosine."""
+    return entry(draws.spoil(rng, angle(rng), T),
+                 draws.spoil_depth(rng, draws.depth(rng)))
 
 
 def end_case(rng, family):
@@ -224,7 +227,7 @@ GRID_PROPOSAL, DOUBLE_PROPOSAL = of_both(proposal_case)
 # What draws each kind, how many a run compares, how many make one piece of
 # work.
 KINDS = {
-    "sine": (sine_case, 80_000, 10_000),
+    "sine": (partial(series_case, entry=wire.sine), 80_000, 10_000),
     "ends": (GRID_END, 200_000, 10_000),
     "verdicts": (GRID_VERDICT, 200_000, 10_000),
     "settled": (GRID_SETTLE, 60_000, 10_000),
@@ -237,7 +240,8 @@ KINDS = {
     "double settled": (DOUBLE_SETTLE, 60_000, 10_000),
     "double enclosures": (DOUBLE_ENCLOSURE, 8_000, 1_000),
     "double proposals": (DOUBLE_PROPOSAL, 8_000, 1_000),
-    "spent sine": (partial(sine_case, angle=draw_spent.angle), 20_000, 10_000),
+    "spent sine": (partial(series_case, entry=wire.sine,
+                           angle=draw_spent.angle), 20_000, 10_000),
     "spent ends": (partial(end_case, family=draw_spent), 20_000, 10_000),
     "spent enclosures": (partial(enclosure_case, family=draw_spent), 1_000,
                          500),
@@ -246,14 +250,21 @@ KINDS = {
     "double distances": (DOUBLE_DISTANCES, 40_000, 5_000),
     "spent distances": (partial(distance_cases, family=draw_spent), 10_000,
                         5_000),
+    "cosine": (partial(series_case, entry=wire.cosine), 60_000, 10_000),
+    "spent cosine": (partial(series_case, entry=wire.cosine,
+                             angle=draw_spent.cosine_angle), 20_000, 10_000),
+    "steps": (draw_steps.step_case, 130_000, 10_000),
+    "step walks": (draw_steps.walk_cases, 180_000, 10_000),
 }
-# The kinds that are drawn by orbits.
-BY_ORBIT = ("distances", "double distances", "spent distances")
+# The kinds that are drawn by orbits, and how many cases each of these has.
+BY_ORBIT = {"distances": PER_ORBIT, "double distances": PER_ORBIT,
+            "spent distances": PER_ORBIT, "step walks": 2 * draw_steps.WALK}
 
 
 def drawn(rng, kind, count):
     """So many cases of a kind."""
     draw = KINDS[kind][0]
     if kind in BY_ORBIT:
-        return [call for _ in range(count // PER_ORBIT) for call in draw(rng)]
+        return [call for _ in range(count // BY_ORBIT[kind])
+                for call in draw(rng)]
     return [draw(rng) for _ in range(count)]

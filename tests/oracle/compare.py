@@ -6,9 +6,10 @@ SEED is a whole number, or 'time' for one from the clock. DRIVER is the
 command that runs driver.c linked with the library. Any difference is printed
 with its case, and the exit status is then 1. So it is where too few of the
 random cases or of the exact facts had a negative M, too few pairs of M and e
-as doubles were drawn for either, too few facts were of spent terms, of
-settled claims, of one of the figures or of distances, or too few random claims
-were settled or estimates measured with one of the answers.
+as doubles were drawn for either, too few random cases were of cosine or
+different steps, too few facts were of spent terms, of settled claims, of one
+of the figures, of distances, of cosine or of steps, or too few random claims
+were settled, estimates measured or steps made with one of the answers.
 """
 import random
 import sys
@@ -18,6 +19,7 @@ from functools import partial
 from multiprocessing import Pool
 
 import cases
+import cosine
 import edges
 import facts
 import figures
@@ -25,8 +27,10 @@ import records
 import report
 import rules
 import stated
+import stated_cosine
 import stated_figures
 import stated_spent
+import steps
 import wire
 from given import Doubles
 from report import Found
@@ -42,6 +46,10 @@ RULES = {
     wire.JUDGE: lambda c: rules.judge(c.given, c.bits, c.n, c.depth),
     wire.SETTLE: lambda c: rules.settle(c.given, c.bits, c.n),
     wire.DISTANCE: lambda c: rules.distance(c.given, c.bits),
+    wire.COSINE: lambda c: cosine.cosine(c.x, c.depth),
+    wire.STEP: lambda c: steps.step(c.given, c.bits, c.method),
+    wire.STEP_JUDGED: lambda c: steps.step_judged(c.given, c.bits, c.method,
+                                                  c.n, c.depth),
     wire.FIGURES: lambda c: figures.figures(c.given.a),
     wire.BATCH: lambda c: (*records.judge_claims(
         c.claims, c.answers, c.answers_len), c.claims),
@@ -70,15 +78,18 @@ def differences(call, wanted, got):
 def compare(driver, calls):
     """Each call by the rules and by the library. Calls with buffers are not
     counted as having a negative M."""
-    faults, answers = [], Counter()
+    faults, answers, made = [], Counter(), set()
     for call, got in zip(calls, wire.ask(driver, calls)):
         wanted = RULES[call.entry](call)
         faults += differences(call, wanted, got)
         if wire.name(call) in report.ANSWERS:
             answers[wire.name(call), report.in_words(call, wanted)] += 1
+        if call.entry in wire.STEPS and wanted[0] == 0:
+            made.add((*call.given, call.bits, call.method))
     return Found(Counter(map(wire.name, calls)),
                  sum(call.given.negative for call in calls),
-                 pairs_in(call.given for call in calls), faults, answers)
+                 pairs_in(call.given for call in calls), faults, answers,
+                 steps=made)
 
 
 def compare_stated(driver):
@@ -89,13 +100,15 @@ def compare_stated(driver):
         faults += differences(call, answer, got)
         if RULES[call.entry](call) != answer:
             faults.append(f"the rules of this folder miss {answer} at {call}")
+    spending = [(*each, rules) for each in stated_spent.PAIRS]
+    spending += [(*each, cosine) for each in stated_cosine.PAIRS]
     faults += [f"the rules of this folder do not spend the terms at X={x} "
-               f"with {pairs} pairs" for x, pairs in stated_spent.PAIRS
-               if rules.spending_pairs(x) != pairs]
+               f"with {pairs} pairs" for x, pairs, series in spending
+               if series.spending_pairs(x) != pairs]
     faults += [f"the rules of this folder do not have the gap {gap} at A={a}"
                for a, gap in stated_figures.GAPS
                if figures.least_gap(a) != gap]
-    numbers = len(calls) + len(stated_spent.PAIRS) + len(stated_figures.GAPS)
+    numbers = len(calls) + len(spending) + len(stated_figures.GAPS)
     return Found(Counter(numbers=numbers), faults=faults)
 
 
@@ -113,6 +126,7 @@ def check_facts(driver, kind, rng, count):
         if kind == facts.WIDTHS:
             found.widths[given], = beside
         elif beside:
+            found.rooted[kind] += 1
             with_root.append(given)
             if kind in facts.DISTANCE_KINDS:
                 _, bits, held = beside

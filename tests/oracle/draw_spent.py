@@ -1,6 +1,6 @@
 """Problems with a root at a small angle, or beside one above which it takes
 one pair more to spend the terms or a depth more to have the best bound. M is
-from 0 up, on the grid or a double.
+from 0 up, on the grid or a double. Cosine's angles of this kind are here too.
 """
 import draw_doubles
 import draw_grid
@@ -13,6 +13,10 @@ from rules import bounds
 # By number of pairs: the least angles at which the next depth has a better
 # bound.
 FIRST_BETTER = (16_562_166, 139_161_675, 360_625_618, 640_968_178)
+# Cosine's: the greatest angles at which so many pairs spend the terms, and the
+# least at which the next depth has a better bound.
+COSINE_SPENT = (4_641_734, 89_301_474, 281_537_481, 542_239_754)
+COSINE_FIRST_BETTER = (5_520_023, 97_404_086, 298_521_115, 566_871_896)
 
 
 def beside(rng, angles):
@@ -28,8 +32,18 @@ ANGLES = (lambda rng: small(rng, 20),
           lambda rng: beside(rng, FIRST_BETTER))
 
 
+COSINE_ANGLES = (lambda rng: rng.randrange(2 ** 15),
+                 lambda rng: rng.randrange(COSINE_SPENT[0] + 2),
+                 lambda rng: beside(rng, COSINE_SPENT),
+                 lambda rng: beside(rng, COSINE_FIRST_BETTER))
+
+
 def angle(rng):
     return draws.one_of(rng, ANGLES)
+
+
+def cosine_angle(rng):
+    return draws.one_of(rng, COSINE_ANGLES)
 
 
 def in_either_way(rng, m, a):

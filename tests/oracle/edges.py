@@ -4,18 +4,21 @@ double, batches whole, damaged and truncated.
 What is given is of the grid or doubles, and the cases beside it are alike.
 Those where sine's terms are spent are in spent.py, in settle.py those where
 a claim that is settled without a depth is about to turn, in distance.py those
-of estimates beside the ends of an enclosure, and in figures.py those of the
-figures.
+of estimates beside the ends of an enclosure, in figures.py those of the
+figures, and in step_edges.py most of those of steps.
 """
 from functools import partial
 from itertools import product
 
+import cosine_facts
 import distance
 import doubles
 import figures
 import records
 import settle
 import spent
+import step_edges
+import steps
 import wire
 from draws import GREATEST, LEAST
 from given import Doubles, Grid
@@ -60,8 +63,9 @@ def off_grid():
 
 ANGLE_SIZES = (0, 1, 2, 524_288, ONE, H - 1, H, H + 1, T - 1, T, T + 1)
 ANGLES = either_sign(ANGLE_SIZES)
-# The angle of sine is not signed: read so, the last three would be negative.
-SINE_ANGLES = (*ANGLE_SIZES, GREATEST, GREATEST + 1, FAR - T, FAR)
+# The angles of sine and cosine are not signed: read so, the last three would
+# be negative.
+SERIES_ANGLES = (*ANGLE_SIZES, GREATEST, GREATEST + 1, FAR - T, FAR)
 # 257 and 261 would be depths 1 and 5 if only a byte of them were read.
 DEPTHS = (0, 1, 2, 3, 4, 5, 6, 257, 261, FAR)
 NEAR_DEPTHS = (0, 1, 2, 3, 4, 5, 6)
@@ -69,8 +73,9 @@ NEAR_DEPTHS = (0, 1, 2, 3, 4, 5, 6)
 TOLERANCES = (0, 1, 1_000, 65_535, 65_536, FAR)
 
 
-def sines():
-    return [wire.sine(x, d) for x, d in product(SINE_ANGLES, DEPTHS)]
+def series(entry):
+    """Of sine or cosine."""
+    return [entry(x, d) for x, d in product(SERIES_ANGLES, DEPTHS)]
 
 
 def ends(every_given, angles, depths):
@@ -88,7 +93,8 @@ def proposals(every_given):
 
 
 def claims(entry, every_given, *others):
-    """Of the judge, of the one that takes no depth, or of a distance."""
+    """Of the judge, of the one that takes no depth, of a distance or of a
+    step."""
     every = product(every_given(), doubles.every_kind(), *others)
     return [entry(*inputs) for inputs in every]
 
@@ -166,7 +172,7 @@ def double_ends():
 
 
 KINDS = {
-    "sine": sines,
+    "sine": partial(series, wire.sine),
     "ends": partial(ends, on_grid, ANGLES, DEPTHS),
     "enclosures": partial(enclosures, on_grid, DEPTHS),
     "proposals": partial(proposals, on_grid),
@@ -193,4 +199,14 @@ KINDS = {
     "spent sine": spent.sine_edges,
     "spent ends": spent.end_edges,
     "spent enclosures": spent.enclosure_edges,
+    "cosine": partial(series, wire.cosine),
+    "spent cosine": cosine_facts.spent_edges,
+    "steps": partial(claims, wire.step, on_grid, step_edges.METHODS),
+    "judged steps": partial(claims, wire.step_judged, on_grid, steps.METHODS,
+                            (1_000,), (1, 5)),
+    "step codes": step_edges.codes,
+    "steps on units": step_edges.units,
+    "steps of few units": step_edges.few_units,
+    "steps of least doubles": step_edges.least_doubles,
+    "steps' ends": step_edges.ends,
 }

@@ -2,6 +2,7 @@
 from functools import partial
 
 import corners
+import cosine_facts
 import demands
 import distance
 import draw_doubles
@@ -11,6 +12,7 @@ import figures
 import mirrors
 import settle
 import spent
+import step_facts
 
 
 def of(family, check):
@@ -27,6 +29,12 @@ SETTLED_KINDS = ("settled", "double settled", "settled mirrors",
                  "settled grid points", "corners' settled")
 # Those whose facts about the root are of distances, R67 to R70.
 DISTANCE_KINDS = ("distances", "double distances", "spent distances")
+# Those of cosine, R71 to R74, and those of steps, R75 to R80, of which the
+# first has facts about the root; and that of the operations which the rule of
+# a step is made of.
+COSINE_KINDS = ("cosine sums", "cosines", "spent cosines")
+STEPS, OPERATIONS = "steps", "operations"
+STEP_KINDS = (STEPS, "step zeros", "step mirrors")
 # Those of the figures: R63, whose facts each have a width beside them, R64 and
 # R65.
 WIDTHS, INSIDE, FAR = "widths", "inside estimates", "far estimates"
@@ -70,6 +78,13 @@ KINDS = {
     WIDTHS: (figures.widths, 110_000, 5_000),
     INSIDE: (figures.inside_estimates, 110_000, 5_000),
     FAR: (figures.far_estimates, 110_000, 5_000),
+    "cosine sums": (cosine_facts.sums, 400, 400),
+    "cosines": (cosine_facts.cosines, 8_000, 2_000),
+    "spent cosines": (cosine_facts.spent_cosines, 5_000, 2_500),
+    OPERATIONS: (step_facts.operations, 10_000, 5_000),
+    STEPS: (step_facts.taken_steps, 12_000, 2_000),
+    "step zeros": (step_facts.zeros, 8_000, 4_000),
+    "step mirrors": (round_of(mirrors.STEP_ROUND), 10_000, 5_000),
     "rises": (figures.rises, 4_000, 2_000),
     "refusals": (figures.refusals, 4_000, 2_000),
 }

@@ -5,6 +5,7 @@ second answer must be the mirror of the first, whatever the rules say of both.
 """
 import cases
 import doubles
+import draw_steps
 import records
 import wire
 from draws import LEAST
@@ -21,6 +22,7 @@ DOUBLE_ROUND = ((cases.DOUBLE_END, 7), (cases.DOUBLE_VERDICT, 7),
                 (cases.DOUBLE_ENCLOSURE, 3), (cases.DOUBLE_PROPOSAL, 2))
 SETTLED_ROUND = ((cases.GRID_SETTLE, 1), (cases.DOUBLE_SETTLE, 1))
 DISTANCE_ROUND = ((cases.GRID_DISTANCE, 1), (cases.DOUBLE_DISTANCE, 1))
+STEP_ROUND = ((draw_steps.step_case, 1), (draw_steps.judged_case, 1))
 
 
 def has_mirror(given, x=0):
@@ -42,7 +44,7 @@ def mirror_call(call):
     given = call.given.mirror()
     if call.entry == wire.BATCH:
         return call._replace(claims=mirror_claims(call.claims))
-    if call.entry in (wire.JUDGE, wire.SETTLE, wire.DISTANCE):
+    if call.entry in (wire.JUDGE, wire.SETTLE, wire.DISTANCE, *wire.STEPS):
         return call._replace(given=given, bits=call.bits ^ doubles.SIGN)
     return call._replace(entry=OTHER_ENTRY.get(call.entry, call.entry),
                          given=given, x=-call.x)
@@ -60,6 +62,10 @@ def mirror_reply(call, reply):
     if call.entry == wire.BATCH:
         count, answers, claims = numbers
         return code, count, answers, mirror_claims(claims)
+    if call.entry in wire.STEPS:
+        step, bits, *others = numbers
+        # Plus zero stays plus zero.
+        return code, step, bits ^ doubles.SIGN if bits else 0, *others
     return reply
 
 

@@ -7,6 +7,7 @@ import facts
 import figures
 import rules
 import settle
+import steps
 import wire
 
 SHOWN = 20
@@ -27,6 +28,17 @@ HELD_LEAST = (("proved", "proved by its bracket", 100_000),
               ("least_tight", "whose least cannot be greater", 10_000),
               ("most_tight", "whose most cannot be less", 10_000),
               ("outside", "with least above 0", 20_000))
+# Random cases of cosine that each run has to have, and of judged steps; and
+# different steps among the random cases.
+CASES_LEAST = {"cosine": 60_000, "step_judged": 60_000}
+STEPS_LEAST = 200_000
+# Exact facts of cosine that each run has to have, of steps, and of these so
+# many that were held against the true root; and results of the operations in
+# whole numbers that were held against floats.
+COSINE_FACTS_LEAST = 100_000
+STEP_FACTS_LEAST = 100_000
+STEP_ROOTS_LEAST = 5_000
+OPERATIONS_LEAST = 20_000
 # Random cases of an entry that have to have each of its answers, and distances
 # that have to be held against each answer of a settled claim, R70.
 ANSWER_LEAST = 200
@@ -36,21 +48,34 @@ def settled_words(verdict, depth):
     return f"{rules.WORDS[verdict]} at depth {depth}"
 
 
+STEP_WORDS = ("Newton", "Halley", "Newton to zero", "Halley to zero",
+              "flat by its divisor", "flat below 0", "flat above T")
+REFUSED_STEPS = ("with code 4", "with code 21")
 ANSWERS = {
     **dict.fromkeys(settle.ENTRIES, [settled_words(*answer)
                                      for answer in settle.ANSWERS]),
     **dict.fromkeys(distance.ENTRIES, [
         "with least 0", "with least above 0", "with code 4"]),
+    "step": [*STEP_WORDS, *REFUSED_STEPS],
+    "step_judged": [*(f"{name} {word}" for name in steps.NAMES.values()
+                      for word in rules.WORDS.values()),
+                    "flat", *REFUSED_STEPS],
 }
 
 
 def in_words(call, answer):
-    """An answer as it is counted, of a settled claim or a distance."""
-    code, first, second = answer
+    """An answer as it is counted, of a settled claim, a distance or a
+    step."""
+    code, first, second, *verdict = answer
     if code:
         return f"with code {code}"
     if call.entry == wire.SETTLE:
         return settled_words(first, second)
+    if call.entry == wire.STEP:
+        return steps.way(call.given, call.bits, call.method)
+    if call.entry == wire.STEP_JUDGED:
+        return ("flat" if first == steps.FLAT else
+                f"{steps.NAMES[first]} {rules.WORDS[verdict[0]]}")
     return "with least above 0" if first else "with least 0"
 
 
@@ -58,9 +83,10 @@ def in_words(call, answer):
 class Found:
     """What was counted, how much of that had a negative M, the different
     pairs of doubles, what is wrong, how often an entry gave each answer, the
-    widths met of the different orbits, and of different estimates what their
-    distances met. Of facts only those pairs count that were held against the
-    true root."""
+    widths met of the different orbits, of different estimates what their
+    distances met, the different steps that had code 0, and by kind how many
+    facts were held against the true root. Of facts only those pairs count
+    that were."""
     counts: Counter = field(default_factory=Counter)
     negative: int = 0
     pairs: set = field(default_factory=set)
@@ -68,6 +94,8 @@ class Found:
     answers: Counter = field(default_factory=Counter)
     widths: dict = field(default_factory=dict)
     held: dict = field(default_factory=dict)
+    steps: set = field(default_factory=set)
+    rooted: Counter = field(default_factory=Counter)
 
     def add(self, other):
         self.counts += other.counts
@@ -77,6 +105,8 @@ class Found:
         self.answers += other.answers
         self.widths.update(other.widths)
         self.held.update(other.held)
+        self.steps |= other.steps
+        self.rooted += other.rooted
 
 
 def facts_of(totals, kinds):
@@ -103,6 +133,22 @@ def held_counts(totals):
                ANSWER_LEAST)
 
 
+def step_counts(totals):
+    """How much there was of cosine and of steps: the group, what, the number,
+    and the least number."""
+    drawn, exact = totals["random"], totals["exact"]
+    for name, least in CASES_LEAST.items():
+        yield "random", f"cases of {name}", drawn.counts[name], least
+    yield "random", "different steps", len(drawn.steps), STEPS_LEAST
+    for what, kinds, least in (
+            ("facts of cosine", facts.COSINE_KINDS, COSINE_FACTS_LEAST),
+            ("facts of steps", facts.STEP_KINDS, STEP_FACTS_LEAST),
+            ("results of operations", (facts.OPERATIONS,), OPERATIONS_LEAST)):
+        yield "exact", what, facts_of(totals, kinds), least
+    yield ("exact", "steps held against the root", exact.rooted[facts.STEPS],
+           STEP_ROOTS_LEAST)
+
+
 def too_few(totals):
     """A sentence for each group that had too few of a kind."""
     wanted = [(group, *rest) for group in ("random", "exact") for rest in (
@@ -115,6 +161,7 @@ def too_few(totals):
     wanted += [("exact", *counted, FIGURES_LEAST)
                for counted in figure_counts(totals)]
     wanted += [("exact", *counted) for counted in held_counts(totals)]
+    wanted += step_counts(totals)
     wanted += [("random", f"{name} {words}",
                 totals["random"].answers[name, words], ANSWER_LEAST)
                for name, every in ANSWERS.items() for words in every]
@@ -141,6 +188,13 @@ def report_held(totals):
     print(f"compare: exact facts of distances: {', '.join(parts)}")
 
 
+def report_steps(totals):
+    parts = [f"{count:,} {group} {what}"
+             for group, what, count, _ in step_counts(totals)]
+    parts.append(f"{len(totals['edge'].steps):,} edge different steps")
+    print(f"compare: of cosine and steps: {', '.join(parts)}")
+
+
 def report(totals, faults, seconds):
     random_found, edge, exact = (totals[group] for group in
                                  ("random", "edge", "exact"))
@@ -159,6 +213,7 @@ def report(totals, faults, seconds):
           f"{facts_of(totals, facts.SETTLED_KINDS):,}")
     report_figures(totals)
     report_held(totals)
+    report_steps(totals)
     for sentence in faults[:SHOWN]:
         print(f"compare: DIFFERENT: {sentence}")
     if len(faults) > SHOWN:

@@ -64,9 +64,9 @@ def enclosure_edges():
 
 # ---- Facts -----------------------------------------------------------------
 
-def alike(x, found):
+def alike(x, found, spending=spending_pairs):
     """The answers at every depth from the one that spends the terms on."""
-    pairs = spending_pairs(abs(x))
+    pairs = spending(abs(x))
     first, *deeper = found[pairs - 1:]
     for d, answer in enumerate(deeper, pairs + 1):
         yield (first[0] == 0 and answer == first,

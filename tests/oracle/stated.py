@@ -2,14 +2,17 @@
 
 They hold both programs: the rules of this folder and the library. What is
 stated of an M above 0 is stated of -M too, as its mirror; and what is stated
-of the grid also of the same numbers as doubles.
+of the grid also of the same numbers as doubles, but for steps, which have no
+entry of doubles.
 """
 import doubles
+import stated_cosine
 import stated_distance
 import stated_doubles
 import stated_figures
 import stated_settle
 import stated_spent
+import stated_step
 import wire
 from draws import GREATEST, LEAST
 from edges import SIGNS
@@ -144,4 +147,5 @@ def stated():
             + stated_distance.on_grid())
     return (sines + stated_spent.sines() + stated_figures.figures() + batches
             + grid + as_doubles(grid) + stated_doubles.stated()
-            + stated_settle.off_grid() + stated_distance.off_grid())
+            + stated_settle.off_grid() + stated_distance.off_grid()
+            + stated_cosine.cosines() + stated_step.stated())
