@@ -15,7 +15,7 @@ DIVISORS = [UNIT * (2 * k - 1) * 2 * k for k in range(1, 11)]
 @lru_cache(maxsize=20_000)
 def bounds(x, depth):
     """R71: CosLo and CosHi. Term 0 is one radian."""
-    return best(*terms(UNIT, x, DIVISORS[:2 * depth]), depth)
+    return best(*terms(UNIT, x, DIVISORS[:2 * depth]))
 
 
 def spending_pairs(x):

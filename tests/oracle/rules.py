@@ -6,7 +6,9 @@ begins with the number of the rule that it follows.
 """
 from fractions import Fraction
 from functools import lru_cache
+from itertools import accumulate
 from math import floor
+from operator import sub
 
 from cells import (angle_code, depth_code, estimate_code, estimate_units,
                    mirror, pose, up)
@@ -34,21 +36,23 @@ def terms(first, x, divisors):
     return lows, ups
 
 
-def raw_low(lows, ups, d):
-    """R12, with the last of the u's numbered 2d - 1."""
-    return sum(lows[0:2 * d:2]) - sum(ups[1:2 * d:2])
+def raw_low(lows, ups):
+    """R12, at depth 1 and on: each has one more l, with an even number, and
+    one more u taken from it, the next."""
+    return accumulate(map(sub, lows[0::2], ups[1::2]))
 
 
-def raw_high(lows, ups, d):
-    """R12, with the last of the u's numbered 2d."""
-    return sum(ups[0:2 * d + 1:2]) - sum(lows[1:2 * d + 1:2])
+def raw_high(lows, ups):
+    """R12, likewise: from u_0 on each has one more u, with an even number, and
+    one more l taken from it, the one before."""
+    further = accumulate(map(sub, ups[2::2], lows[1::2]))
+    return (ups[0] + total for total in further)
 
 
-def best(lows, ups, depth):
-    """R13: the greatest raw low and the least raw high."""
-    tried = range(1, depth + 1)
-    return (max(raw_low(lows, ups, d) for d in tried),
-            min(raw_high(lows, ups, d) for d in tried))
+def best(lows, ups):
+    """R13: the greatest raw low and the least raw high. At depth d there are
+    terms 0 to 2d."""
+    return max(raw_low(lows, ups)), min(raw_high(lows, ups))
 
 
 def pairs_spent(lows, ups):
@@ -60,7 +64,7 @@ def pairs_spent(lows, ups):
 @lru_cache(maxsize=20_000)
 def bounds(x, depth):
     """R13: Lo and Hi."""
-    return best(*terms(x, x, DIVISORS[:2 * depth]), depth)
+    return best(*terms(x, x, DIVISORS[:2 * depth]))
 
 
 def spending_pairs(x):
