@@ -610,19 +610,19 @@ struct stripeawn_off stripeawn_distance(int32_t m, uint32_t a,
 **    21 = method neither 1 nor 2
 **    0 = done
 ** Notes:
-** 1) For m not below 0, with f the estimate E in units, rounded down,
-**        s = lo of stripeawn_sine(f, 5) / 2^28      m = m / 2^28
-**        k = lo of stripeawn_cosine(f, 5) / 2^28    e = a / 2^28
+** 1) For M not below 0, with f the estimate E in units, rounded down,
+**        s = lo of stripeawn_sine(f, 5) / 2^28      w = M / 2^28
+**        k = lo of stripeawn_cosine(f, 5) / 2^28    e = A / 2^28
 **    which are exact in doubles; then, every operation rounded once to a
 **    double, in this order and none of them fused,
-**        g = e s        F = (E - m) - g        D = 1 - e k
+**        g = e s        F = (E - w) - g        D = 1 - e k
 **        Newton:   E - F / D
 **        Halley:   E - ((2 F) D) / (((2 D) D) - (F g))
 ** 2) The step is flat where its divisor, D or ((2 D) D) - (F g), is 0, or
 **    where the new estimate would get code 4: where it is NaN, infinite,
 **    below 0 or above T units. A flat step hands nothing over. A new
 **    estimate that is a zero is handed over as plus zero.
-** 3) For m below 0 it is the step of -m from -estimate, and the new estimate
+** 3) For M below 0 it is the step of -M from -estimate, and the new estimate
 **    has its sign changed; zero stays plus zero.
 ** 4) A step only proposes. Nothing is promised of how good the new estimate
 **    is, nor that steps come nearer to the root: near the parabolic limit
