@@ -25,7 +25,7 @@ of-steps : AllHold stepRows
 unfolding stepRows l u evens odds rawLow rawHigh greatestLow leastHigh neg eq ofInt sub mul div ofBits offRange localAt stepRule
 of-steps =
     refl and refl and refl and refl and refl and refl and refl and refl and refl and refl and refl and refl and refl and refl and refl
-    and refl and refl and refl and tt
+    and refl and refl and refl and refl and refl and refl and refl and refl and tt
 
 of-judged : AllHold judgedRows
 unfolding judgedRows l u evens odds rawLow rawHigh greatestLow leastHigh belowBy aboveBy neg eq ofInt sub mul div ofBits offRange localAt verdictOf confirmed refuted judgeRule judgedRule

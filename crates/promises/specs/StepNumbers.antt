@@ -69,6 +69,13 @@ stepRows =
     ∷ step (pos 268435456) 134217728 0x3ff0000000000000 2 2 0x3ff7e8c89567b9ba
     ∷ step (minus 268435456) 134217728 0xbff0000000000000 1 1 0xbff93937eab2bc08
     ∷ step (minus 268435456) 134217728 0xbff0000000000000 2 2 0xbff7e8c89567b9ba
+    -- these round otherwise with F = E - (m + g), with an operation fused, and by 2 (F D)
+    ∷ step (pos 16777216) 123456789 0x3fe0000000000000 1 1 0x3fc16cce1dcdc220
+    ∷ step (pos 1) 268435455 0x3fd0000000000000 2 2 0x3fbffbbd6109f4be
+    ∷ step (pos 0) 83886080 1 2 2 0
+    -- ends at T, and one double beyond it
+    ∷ step (pos 467821853) 134217728 0x3fe00000016f36f2 1 1 0x400921fb74000000
+    ∷ step (pos 467821853) 134217728 0x3fe00000016f36f1 1 3 0
     -- ends exactly at zero, on the mirror too
     ∷ step (minus 1) 150000001 0xbe3ca213d6d70141 1 1 0
     ∷ step (pos 0) one 0x3f60000000000000 1 1 0
