@@ -16,7 +16,7 @@ use lib.Ieee.Exact.{HasValue, round-exact}
 use Rattle.grid.specs.Grid.{T-units}
 use Rattle.units.specs.Units.{offRange, floorAndCeiling}
 use Rattle.orbit.specs.Given.{grid, mirroredOf}
-use Rattle.step.specs.Step.{_⊖_, _⊗_, _⊘_, two, plus-zero, localAt, newtonNew, halleyDivisor, halleyNew, taken, newtonStep, halleyStep, stepBy}
+use Rattle.step.specs.Step.{_⊖_, _⊗_, _⊘_, two, plus-zero, flat, localAt, newtonNew, halleyDivisor, halleyNew, taken, newtonStep, halleyStep, stepBy}
 use Rattle.step.specs.Entry.{posedAs, stepFrom, stepRule, judgedRule}
 use Rattle.step.specs.declared.Local.{Local}
 use Rattle.step.specs.declared.Taken.{Taken}
@@ -177,6 +177,14 @@ unfolding offRange
 zero-within true = refl
 zero-within false = refl
 
+-- and neither sign makes a step flat
+flat-alike : (divisor : Float) (s r : Bool) → flat divisor (zeroOf s) ≡ flat divisor (zeroOf r)
+unfolding offRange
+flat-alike divisor true true = refl
+flat-alike divisor true false = refl
+flat-alike divisor false true = refl
+flat-alike divisor false false = refl
+
 -- two steps of a method whose divisors are zeros, or whose divisors are one and new estimates alike
 abbrev Matched : Float → Float → Float → Float → Type 0
 Matched d f y z = (Zero d × Zero f) ⊎ ((d ≡ f) × Alike y z)
@@ -188,7 +196,7 @@ taken-alike method mirrored d f y z p =
       | inr a ↦ elim (a .1) [
         | inl e ↦ ap₂ (taken method mirrored) (a .0) e
         | inr b ↦
-            rw (a .0, b .0 .1, b .1 .1, zero-is (b .0 .0), zero-is (b .1 .0), zero-within (b .0 .0), zero-within (b .1 .0))
+            rw (a .0, b .0 .1, b .1 .1, zero-is (b .0 .0), zero-is (b .1 .0), flat-alike f (b .0 .0) (b .1 .0))
       ]
     ]
 
