@@ -25,6 +25,23 @@ find_kit() {
     kit=$(dirname -- "$(dirname -- "$(readlink -f "$rt")")")
 }
 
+# work_in_memory: temporary files go to the system's shared memory, where that
+# has room and programs run from it. The prover writes thousands of small ones
+# for each crate and each edit, and on a disk they take a sixth of its time.
+work_in_memory() {
+    memory=/dev/shm
+    [ -z "${TMPDIR:-}" ] && [ -d "$memory" ] && [ -w "$memory" ] || return 0
+    [ "$(df -Pk "$memory" | awk 'NR == 2 { print $4 }')" -ge 1048576 ] || return 0
+    probe=$(mktemp "$memory/probe.XXXXXX") || return 0
+    printf '#!/bin/sh\n' >"$probe"
+    chmod 700 "$probe"
+    if "$probe" 2>/dev/null; then
+        TMPDIR=$memory
+        export TMPDIR
+    fi
+    rm -f "$probe"
+}
+
 # Sets cc, cxx, emulator and the packages that bring the compilers.
 choose_target() {
     find_kit

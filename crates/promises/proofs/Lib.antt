@@ -13,7 +13,5 @@ pub mod FarAndNear
 pub mod Figures
 pub mod Distance
 pub mod Further
-pub mod Starred
-pub mod StepNumbers
 pub mod Step
 pub mod Unique

@@ -10,6 +10,4 @@ pub mod Distance
 pub mod Cosine
 pub mod Step
 pub mod Further
-pub mod Starred
-pub mod StepNumbers
 pub mod Unique

@@ -3,8 +3,7 @@ use mathlib.Core.Path.{_≡_}
 use mathlib.Core.Bool.{Bool, true, false}
 use mathlib.Core.List.{List, [], _∷_, _++_}
 use Prim.Native.Nat.{ℕ, _+_, _≤_}
-use lib.IntN.{ℤ, pos, negsuc, negℤ, natAbs}
-use lib.Ieee.{binary64, ofBits}
+use lib.IntN.{ℤ, pos, negsuc, natAbs}
 use lib.ListN.{length}
 use Rattle.grid.specs.Grid.{one, H-units, T-units, depths}
 use Rattle.grid.specs.Codes.{Code, number, done, bad-m, bad-a, bad-estimate, bad-x, no-upper-end}
@@ -23,7 +22,8 @@ use Rattle.judge.specs.declared.Verdict.the-variants.{Confirmed, Refuted, Undec
 use Rattle.distance.specs.Distance.{noDistance, distanceRule}
 use Rattle.claims.specs.Form.{twenty}
 use Rattle.claims.specs.Batch.{batchRule, answersAfter}
 use Rattle.promises.specs.Figures.{greatestWidth, leastN}
+use Rattle.numbers.specs.Rows.{AllHold, minus, double}
 
 -- a line: an entry's numbers, and what it answers to them
 pub data Row : Type 0 where
@@ -56,16 +56,12 @@ pub data Row : Type 0 where
   -- claims and the answers buffer: the count, and the buffer after
   batch : List ℕ → List ℕ → ℕ → List ℕ → Row
 
--- a negative number
-abbrev pub minus : ℕ → ℤ
-minus n = negℤ (pos n)
-
 -- M and e by the bits of their doubles
 abbrev pub bits : ℕ → ℕ → Given
-bits m e = doubles (ofBits binary64 m) (ofBits binary64 e)
+bits m e = doubles (double m) (double e)
 
 abbrev pub judge : Given → ℕ → ℕ → ℕ → Judged
-judge g x N d = judgeRule (claimOf g (ofBits binary64 x) N d)
+judge g x N d = judgeRule (claimOf g (double x) N d)
 
 -- code 0, Lo and Hi
 abbrev pub Bounds : ℕ → ℕ → ℕ → ℕ → Type 0
@@ -78,22 +74,18 @@ Holds (raw X d lo hi) = (rawLow series.sine X d ≡ pos lo) × (rawHigh series.s
 Holds (lower M A X d t) = lowerRule (pos X) (grid (pos M) A) d ≡ flagged t
 Holds (upper M A X d t) = upperRule (pos X) (grid (pos M) A) d ≡ flagged t
 Holds (ends g d k a b) = enclosureRule g d ≡ record { code = number k; lower = a; upper = b }
-Holds (estimate x f c) = codedEstimate (ofBits binary64 x) ≡ unitsWith (number done) (record { floor = f; ceiling = c })
+Holds (estimate x f c) = codedEstimate (double x) ≡ unitsWith (number done) (record { floor = f; ceiling = c })
 Holds (code g X k) = (lowerRule X g 1 .code ≡ number k) × (upperRule X g 1 .code ≡ number k)
-Holds (estimate-code x k) = codedEstimate (ofBits binary64 x) .code ≡ number k
+Holds (estimate-code x k) = codedEstimate (double x) .code ≡ number k
 Holds (judged g x N d v) = judge g x N d ≡ verdict v
-Holds (settled g x N v d) = settleRule g (ofBits binary64 x) N ≡ settledAs v d
-Holds (off g x least most) = distanceRule g (ofBits binary64 x) ≡ record { code = number done; least = least; most = most }
-Holds (off-code g x k) = distanceRule g (ofBits binary64 x) ≡ noDistance (number k)
+Holds (settled g x N v d) = settleRule g (double x) N ≡ settledAs v d
+Holds (off g x least most) = distanceRule g (double x) ≡ record { code = number done; least = least; most = most }
+Holds (off-code g x k) = distanceRule g (double x) ≡ noDistance (number k)
 Holds (figures A width N) = (greatestWidth A ≡ width) × (leastN A ≡ N)
 Holds (judge-code g x k) = judge g x 0 depths .code ≡ number k
 Holds (batch claims answers n after) =
     (batchRule twenty (length claims) (length answers) ≡ record { code = number done; count = n })
     × (answersAfter twenty claims answers ≡ after)
-
-abbrev pub AllHold : List Row → Type 0
-AllHold [] = Unit {0}
-AllHold (r ∷ rs) = Holds r × AllHold rs
 
 unfoldable pub starred : List Row
 starred =
@@ -268,8 +260,8 @@ others =
 
 pub record Starred : Type 0 where
   -- R57: the starred rows, one statement
-  pub list : AllHold starred
-  pub beside : AllHold others
+  pub list : AllHold Holds starred
+  pub beside : AllHold Holds others
   -- R13: at T both bounds lie below zero
   pub below-zero : sineRule T-units depths ≡ record { code = number done; lo = negsuc 68; hi = negsuc 56 }
   -- R32

@@ -2,13 +2,13 @@
 use mathlib.Core.Path.{_≡_}
 use mathlib.Core.List.{List, [], _∷_}
 use Prim.Native.Nat.{ℕ, _+_}
-use lib.IntN.{ℤ, pos, negℤ}
-use lib.Ieee.{Float, binary64, ofBits}
+use lib.IntN.{ℤ, pos}
 use Rattle.grid.specs.Grid.{one, H-units, T-units}
 use Rattle.grid.specs.Codes.{Code, number, done, bad-m, bad-a, bad-depth, bad-estimate, bad-n, bad-x, bad-method}
 use Rattle.series.specs.Entry.{noBounds}
 use Rattle.cosine.specs.Cosine.{cosineRule}
 use Rattle.step.specs.Entry.{unstepped, stepRule, unjudgedStep, judgedRule}
+use Rattle.numbers.specs.Rows.{AllHold, minus, double}
 
 -- a line: an entry's numbers, and what it answers to them; doubles by their bits
 pub data Row : Type 0 where
@@ -25,25 +25,14 @@ pub data Row : Type 0 where
   -- the same: the code
   judged-code : ℤ → ℕ → ℕ → ℕ → ℕ → ℕ → Code → Row
 
-abbrev bits : ℕ → Float
-bits x = ofBits binary64 x
-
 abbrev pub Holds : Row → Type 0
 Holds (cosine X d lo hi) = cosineRule X d ≡ record { code = number done; lo = lo; hi = hi }
 Holds (cosine-code X d k) = cosineRule X d ≡ noBounds (number k)
-Holds (step M A x method n y) = stepRule M A (bits x) method ≡ record { code = number done; step = n; estimate = bits y }
-Holds (step-code M A x method k) = stepRule M A (bits x) method ≡ unstepped (number k)
+Holds (step M A x method n y) = stepRule M A (double x) method ≡ record { code = number done; step = n; estimate = double y }
+Holds (step-code M A x method k) = stepRule M A (double x) method ≡ unstepped (number k)
 Holds (judged M A x method N d n y v) =
-    judgedRule M A (bits x) method N d ≡ record { code = number done; step = n; estimate = bits y; verdict = v }
-Holds (judged-code M A x method N d k) = judgedRule M A (bits x) method N d ≡ unjudgedStep (number k)
-
-abbrev pub AllHold : List Row → Type 0
-AllHold [] = Unit {0}
-AllHold (r ∷ rs) = Holds r × AllHold rs
-
--- a negative number
-abbrev minus : ℕ → ℤ
-minus n = negℤ (pos n)
+    judgedRule M A (double x) method N d ≡ record { code = number done; step = n; estimate = double y; verdict = v }
+Holds (judged-code M A x method N d k) = judgedRule M A (double x) method N d ≡ unjudgedStep (number k)
 
 unfoldable pub cosineRows : List Row
 cosineRows =
@@ -114,6 +103,6 @@ judgedRows =
     ∷ []
 
 pub record StepNumbers : Type 0 where
-  pub cosine : AllHold cosineRows
-  pub step : AllHold stepRows
-  pub judged : AllHold judgedRows
+  pub cosine : AllHold Holds cosineRows
+  pub step : AllHold Holds stepRows
+  pub judged : AllHold Holds judgedRows

@@ -21,24 +21,22 @@ use Rattle.claims.specs.Record.{answerAt}
 use Rattle.claims.specs.Batch.{batchRule, upTo, answersAfter}
 use Rattle.series.proofs.Zero.{Lo-zero, Hi-zero}
 use Rattle.grid.specs.Grid.{depths}
-use Rattle.promises.specs.Starred.{Bounds, AllHold, starred, others, Starred}
-
-infixr 4 _and_
-_and_ : {A B : Type 0} → A → B → A × B
-p and q = (p, q)
+use Rattle.numbers.specs.Rows.{AllHold}
+use Rattle.numbers.specs.Starred.{Bounds, Holds, starred, others, Starred}
+use Rattle.numbers.proofs.Rows.{_and_}
 
 -- X = 0, at any depth
 at-0 : (d : ℕ) → 1 ≤ d → d ≤ depths → Bounds 0 d 0 0
 unfolding boundsRule
 at-0 d some few = simp (le-ltb d 1 some, le-ltb depths d few, Lo-zero d, Hi-zero d)
 
-list : AllHold starred
+list : AllHold Holds starred
 unfolding starred boundsRule l u evens odds rawLow rawHigh greatestLow leastHigh belowBy aboveBy halve turns foundLower foundUpper offRange ofBits
 list =
     at-0 and refl and refl and refl and (refl, refl) and refl and refl and refl and refl
     and refl and refl and refl and refl and refl and refl and refl and refl and refl and refl and refl and tt
 
-beside : AllHold others
+beside : AllHold Holds others
 unfolding others l u evens odds rawLow rawHigh greatestLow leastHigh belowBy aboveBy halve turns foundLower foundUpper neg belowZero offRange ofBits verdictOf confirmed refuted judgeRule firstFrom settledDepth settleRule distanceRule littleEndian answerAt batchRule upTo answersAfter
 beside =
     (refl, refl) and (refl, refl) and (refl, refl) and (refl, refl) and (refl, refl) and (refl, refl)

@@ -10,24 +10,22 @@ use Rattle.judge.specs.Verdict.{confirmed, refuted, verdictOf}
 use Rattle.judge.specs.Judge.{judgeRule}
 use Rattle.step.specs.Step.{localAt}
 use Rattle.step.specs.Entry.{stepRule, judgedRule}
-use Rattle.promises.specs.StepNumbers.{AllHold, cosineRows, stepRows, judgedRows, StepNumbers}
+use Rattle.numbers.specs.Rows.{AllHold}
+use Rattle.numbers.specs.StepNumbers.{Holds, cosineRows, stepRows, judgedRows, StepNumbers}
+use Rattle.numbers.proofs.Rows.{_and_}
 
-infixr 4 _and_
-_and_ : {A B : Type 0} → A → B → A × B
-p and q = (p, q)
-
-of-cosine : AllHold cosineRows
+of-cosine : AllHold Holds cosineRows
 unfolding cosineRows boundsRule l u evens odds rawLow rawHigh greatestLow leastHigh
 of-cosine =
     refl and refl and refl and refl and refl and refl and refl and refl and refl and refl and refl and refl and refl and tt
 
-of-steps : AllHold stepRows
+of-steps : AllHold Holds stepRows
 unfolding stepRows l u evens odds rawLow rawHigh greatestLow leastHigh neg eq ofInt sub mul div ofBits offRange localAt stepRule
 of-steps =
     refl and refl and refl and refl and refl and refl and refl and refl and refl and refl and refl and refl and refl and refl and refl
     and refl and refl and refl and refl and refl and refl and refl and refl and tt
 
-of-judged : AllHold judgedRows
+of-judged : AllHold Holds judgedRows
 unfolding judgedRows l u evens odds rawLow rawHigh greatestLow leastHigh belowBy aboveBy neg eq ofInt sub mul div ofBits offRange localAt verdictOf confirmed refuted judgeRule judgedRule
 of-judged =
     refl and refl and refl and refl and refl and refl and refl and refl and refl and refl and refl and refl and tt

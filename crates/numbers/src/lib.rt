@@ -1,0 +1,1 @@
+// No code: the numbers to hold against, computed from the public entries' definitions.
