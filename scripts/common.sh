@@ -38,7 +38,7 @@ runs_programs() {
 # work_in_memory: temporary files go to memory, where a file system there is
 # for everyone, has a gibibyte of room and runs programs; a TMPDIR that is set
 # stays. The prover writes thousands of small files for each crate and each
-# edit, and on a disk they take a tenth to a fifth of its time.
+# edit, and on a disk they take up to a fifth of its time.
 work_in_memory() {
     [ -z "${TMPDIR:-}" ] || return 0
     for memory in $(df -Pkt tmpfs 2>/dev/null |
