@@ -87,6 +87,19 @@
 ** exists: there the equation is flat at E = 0, and the problem is ill-posed.
 ** Off the grid none is promised, as an end has to hold for the whole cell.
 **
+** Flybys. A hyperbolic orbit has e >= 1 and the equation e sinh X - X = M.
+** The entries named stripeawn_flyby_.. are for it: M in units, from 0 up, and
+** B, which is 2^28 e. They have limits of their own, no depth and no mirror,
+** and what is said above of cells, sides and depths is not about them. With S
+** the Taylor sum of sinh up to degree 19 and t its last term, which is
+** x^19 / 19! at x = X / 2^28, accepted ends meet, in exact fractions,
+**
+**     X + M >= e (S(X) + t)  (lower)    and    X + M <= e S(X)  (upper)
+**
+** so that, as S <= sinh <= S + t up to 2 radians, the root is not below a
+** lower end and not above an upper end. No accepted lower end lies above an
+** accepted upper end of the same M and e.
+**
 ** Notes on every entry:
 ** 1) A result begins with a code. With a code other than 0 every other
 **    number of the result is 0 and lent buffers are as before the call.
@@ -148,6 +161,12 @@ extern "C" {
 #define STRIPEAWN_DEPTH_MAX 5u        /* the least depth is 1              */
 #define STRIPEAWN_N_MAX 65535u        /* tolerance, in units               */
 
+/* Limits of a flyby: the greatest value taken, and the least where not 0. */
+#define STRIPEAWN_FLYBY_M_MAX 2147483647u /* 2^31 - 1 units                */
+#define STRIPEAWN_FLYBY_X_MAX 536870912   /* 2^29 units, two radians       */
+#define STRIPEAWN_FLYBY_B_MIN 268435456u  /* 2^28, which is eccentricity 1 */
+#define STRIPEAWN_FLYBY_B_MAX 1073741824u /* 2^30, which is eccentricity 4 */
+
 /* Sizes. */
 #define STRIPEAWN_RADIAN 268435456    /* units in one radian, 2^28         */
 #define STRIPEAWN_UNIT (1.0 / 268435456.0) /* radians in one unit, exact   */
@@ -156,7 +175,8 @@ extern "C" {
 /*
 ** Codes. Each is given exactly when its condition holds and no code before
 ** it in the entry's order applies. The order over all entries is 9, 1, 2, 3,
-** 10, 4, 5, 6, 21; in a batch, 7 and then 8 come before any record is read.
+** 10, 4, 5, 6, 15, 21; in a batch, 7 and then 8 come before any record is
+** read. Of a flyby 1, 2, 4 and 10 go by its own limits, as its Status says.
 */
 #define STRIPEAWN_DONE 0u             /* done                              */
 #define STRIPEAWN_BAD_M 1u            /* size of M above H units; as a     */
@@ -176,6 +196,8 @@ extern "C" {
 #define STRIPEAWN_BAD_RESERVED 9u     /* reserved byte of a claim not zero */
 #define STRIPEAWN_BAD_X 10u           /* angle X opposing M, or of size    */
                                       /*   above T                         */
+#define STRIPEAWN_NO_FLYBY_END 15u    /* enclosure of a flyby: 2^29 is not */
+                                      /*   accepted as an upper end        */
 #define STRIPEAWN_BAD_METHOD 21u      /* method neither 1 nor 2            */
 
 /* Methods of a step, and the steps taken. */
@@ -204,7 +226,7 @@ static inline const char *stripeawn_name(uint32_t number)
     switch (number) {
     case STRIPEAWN_DONE: return "done";
     case STRIPEAWN_BAD_M: return "M out of range";
-    case STRIPEAWN_BAD_A: return "A or e out of range";
+    case STRIPEAWN_BAD_A: return "A, B or e out of range";
     case STRIPEAWN_BAD_DEPTH: return "depth not 1 to 5";
     case STRIPEAWN_BAD_ESTIMATE: return "estimate out of range";
     case STRIPEAWN_BAD_N: return "N too large";
@@ -213,6 +235,7 @@ static inline const char *stripeawn_name(uint32_t number)
     case STRIPEAWN_SHORT_ANSWERS: return "answers buffer too short";
     case STRIPEAWN_BAD_RESERVED: return "reserved byte not zero";
     case STRIPEAWN_BAD_X: return "angle X out of range";
+    case STRIPEAWN_NO_FLYBY_END: return "no enclosure up to 2^29 units";
     case STRIPEAWN_BAD_METHOD: return "method neither 1 nor 2";
     case STRIPEAWN_CONFIRMED: return "Confirmed";
     case STRIPEAWN_REFUTED: return "Refuted";
@@ -640,6 +663,112 @@ struct stripeawn_judged_step stripeawn_step_judged(int32_t m, uint32_t a,
 
 struct stripeawn_stepped stripeawn_step(int32_t m, uint32_t a,
                                         double estimate, uint32_t method);
+
+/*
+** stripeawn_flyby_sinh: whole-number bounds of the hyperbolic sine.
+**
+** Given:
+**    x       units, 0 to 2^29
+** Returned:
+**    lo      lower bound of 2^28 sinh(x / 2^28)
+**    hi      upper bound of it
+** Status:
+**    10 = x above 2^29
+**    0 = done
+** Notes:
+** 1) lo is at most 2^28 S(x) and hi at least 2^28 (S(x) + t), with S the
+**    Taylor sum of sinh up to degree 19 and t its last term once more, for
+**    all the terms that S leaves out. Both are 0 at x = 0; elsewhere lo is
+**    below hi.
+** 2) Neither is above 2^30, which is 4: at 2^29 they are 973577924 and
+**    973577934.
+*/
+struct stripeawn_bounds stripeawn_flyby_sinh(uint32_t x);
+
+/*
+** stripeawn_flyby_lower_end: is a flyby's root certainly not below x?
+** stripeawn_flyby_upper_end: is a flyby's root certainly not above x?
+**
+** Given:
+**    x       to test, units, 0 to 2^29
+**    m       M in units, 0 to 2^31 - 1
+**    b       B, which is 2^28 e, 2^28 to 2^30
+** Returned:
+**    accepted   1 where the test holds, otherwise 0:
+**               lower:   2^28 (x + m) >= b hi
+**               upper:   2^28 (x + m) <= b lo
+**               (lo and hi as stripeawn_flyby_sinh gives them)
+** Status:
+**    1 = m above 2^31 - 1
+**    2 = b below 2^28 or above 2^30
+**    10 = x above 2^29
+**    0 = done
+** Notes:
+** 1) As a lower end 0 is always accepted; as an upper end it is accepted
+**    where m is 0, and only there. Both ends are then accepted at 0, the
+**    root; nowhere else are they at one x.
+** 2) An x may be neither. The accepted ones need not be one unbroken run.
+*/
+struct stripeawn_end stripeawn_flyby_lower_end(uint32_t x, uint32_t m,
+                                               uint32_t b);
+
+struct stripeawn_end stripeawn_flyby_upper_end(uint32_t x, uint32_t m,
+                                               uint32_t b);
+
+/*
+** stripeawn_flyby_enclose: two numbers with a flyby's root between them.
+**
+** Given:
+**    m       M in units, 0 to 2^31 - 1
+**    b       B, which is 2^28 e, 2^28 to 2^30
+** Returned:
+**    lower   an accepted lower end, units, where lower + 1 is not accepted
+**    upper   an accepted upper end, units, where upper - 1 is not accepted
+**            or upper is 0
+** Status:
+**    1 = m above 2^31 - 1
+**    2 = b below 2^28 or above 2^30
+**    15 = 2^29 is not accepted as an upper end
+**    0 = done
+** Notes:
+** 1) Code 15 says that the root may lie beyond 2 radians, where the bounds
+**    do not reach: M is then near e sinh 2 - 2 or above. For e = 1 this is
+**    so from m = 436707013 up, for e = 2 from m = 1410284937 up; from
+**    e = 2.75721 up (b = 740131758) no m gets it.
+** 2) Near the parabolic limit an enclosure is as wide as the problem makes
+**    it: with e close to 1 and M close to 0, one unit more in M moves the
+**    root by many thousands.
+*/
+struct stripeawn_enclosure stripeawn_flyby_enclose(uint32_t m, uint32_t b);
+
+/*
+** stripeawn_flyby_judge: is an estimate within n units of a flyby's root?
+**
+** Given:
+**    m          M in units, 0 to 2^31 - 1
+**    b          B, which is 2^28 e, 2^28 to 2^30
+**    estimate   in radians, 0 to 2; either zero counts as 0
+**    n          tolerance, units, 0 to 65535
+** Returned:
+**    verdict    16 Confirmed, 17 Refuted, 18 Undecided
+** Status:
+**    1 = m above 2^31 - 1
+**    2 = b below 2^28 or above 2^30
+**    4 = estimate NaN, infinite, below 0 or above 2^29 units, which is 2
+**    5 = n above 65535
+**    0 = done
+** Notes:
+** 1) Confirmed promises that the root is at most n units from the estimate,
+**    Refuted that it is more than n units away; both mean the exact values
+**    of M, e and the estimate. Undecided promises nothing. No verdict speaks
+**    of the residual e sinh X - X - M, which may be small far from the root.
+** 2) There is one depth: what is Undecided stays so. A lesser or a greater n
+**    may decide it, and the enclosure says what can be known.
+** 3) Where stripeawn_flyby_enclose answers 15, an estimate may still be
+**    judged. The root may then be beyond every estimate that is taken.
+*/
+struct stripeawn_verdict stripeawn_flyby_judge(uint32_t m, uint32_t b,
+                                               double estimate, uint32_t n);
 
 /*
 ** stripeawn_greatest_width: how far apart the ends of an enclosure can be.
