@@ -11,7 +11,7 @@ use Rattle.grid.specs.Grid.{one, H-units, T-units, depths, N-units}
 -- R5: what a code says, in the order of the numbers
 pub data Code : Type 0 where
   done bad-m bad-a bad-depth bad-estimate bad-n : Code
-  no-upper-end bad-length short-answers bad-reserved bad-x bad-method : Code
+  no-upper-end bad-length short-answers bad-reserved bad-x no-flyby-end bad-method : Code
 
 -- R5: the number of a code
 abbrev pub number : Code → ℕ
@@ -26,13 +26,14 @@ number bad-length = 7
 number short-answers = 8
 number bad-reserved = 9
 number bad-x = 10
+number no-flyby-end = 15
 number bad-method = 21
 
 -- R6: the order in which an entry has the checks of its own inputs
 unfoldable pub order : List Code
 order =
     bad-length ∷ short-answers ∷ bad-reserved ∷ bad-m ∷ bad-a ∷ bad-depth
-    ∷ bad-x ∷ bad-estimate ∷ bad-n ∷ no-upper-end ∷ bad-method ∷ []
+    ∷ bad-x ∷ bad-estimate ∷ bad-n ∷ no-upper-end ∷ no-flyby-end ∷ bad-method ∷ []
 
 -- R5: a code's condition, computed from one call's input, beside the code
 pub record Check : Type 0 where
@@ -48,6 +49,10 @@ or false b = b
 abbrev pub limit-check : ℕ → ℕ → Code → Check
 limit-check n limit code = record { fails = ltb limit n; code = code }
 
+-- R5: a number below its least or beyond its limit
+abbrev pub span-check : ℕ → ℕ → ℕ → Code → Check
+span-check n least limit code = record { fails = or (ltb n least) (ltb limit n); code = code }
+
 -- R5: code 1, M of a size beyond H
 abbrev pub m-check : ℤ → Check
 m-check m = limit-check (natAbs m) H-units bad-m
@@ -58,7 +63,7 @@ a-check a = limit-check a one bad-a
 
 -- R5: code 3, a depth other than 1 to 5
 abbrev pub depth-check : ℕ → Check
-depth-check d = record { fails = or (ltb d 1) (ltb depths d); code = bad-depth }
+depth-check d = span-check d 1 depths bad-depth
 
 -- R5: code 10, an angle beyond T
 abbrev pub x-check : ℕ → Check

@@ -3,3 +3,4 @@ pub mod Codes
 pub mod Make
 pub mod Refuses
 pub mod Limits
+pub mod Flyby

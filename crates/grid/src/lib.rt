@@ -1,10 +1,10 @@
 // The grid on which the user's numbers stand, and the codes of what stands outside it.
 ghost use mathlib.Core.Path.{_≡_};
 ghost use Prim.Native.Nat.{_+_, _-_, min};
-ghost use Rattle.grid.specs.Grid.{T-units};
 ghost use Rattle.grid.specs.Make.{codedAngle, codedSigned, codedEccentricity, codedDepth};
 
 pub mod codes;
+pub mod flyby;
 
 // An angle of 0 to T units; one unit is 2^-28 radian.
 pub struct Angle {
@@ -141,14 +141,14 @@ pub fn step_down(x: u64, n: u64) -> u64
     if x < n { 0 } else { x - n }
 }
 
-// n units above x, or T where that is above T.
-pub fn step_up(x: u64, n: u64) -> u64
-    ensures { λ r. ⌜ r ≡ min (x + n) T-units ⌝ }
+// n units above x, or the top where that is above it.
+pub fn step_up(x: u64, n: u64, top: u64) -> u64
+    ensures { λ r. ⌜ r ≡ min (x + n) top ⌝ }
 {
-    if x <= T {
-        if n <= T - x {
+    if x <= top {
+        if n <= top - x {
             return x + n;
         }
     }
-    T
+    top
 }

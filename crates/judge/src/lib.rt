@@ -64,7 +64,7 @@ fn confirmed_from(k: Case) -> u64
     let problem = k.problem;
     let u = k.units;
     let p = grid::step_down(u.ceiling, k.tolerance);
-    let q = grid::step_up(u.floor, k.tolerance);
+    let q = grid::step_up(u.floor, k.tolerance, grid::T);
     let low = ends::accepted_from(problem, Angle { units: p }, false);
     if low == 0 {
         return 0;

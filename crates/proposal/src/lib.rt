@@ -40,7 +40,7 @@ fn holds(cell: Cell, angle: u64, j: u32) -> bool
         units: grid::step_down(angle, width),
     };
     let high = Angle {
-        units: grid::step_up(angle, width),
+        units: grid::step_up(angle, width, grid::T),
     };
     let depth = Depth {
         pairs: Depth::GREATEST,

@@ -29,38 +29,39 @@ Level s Y X n = Y * den s n + other s Y n + same s X n ≤ X * den s n + other s
 abbrev pub Rises : Series → ℕ → ℕ → ℕ → Type 0
 Rises s Y X n = Y * den s n + same s Y n + other s X n < X * den s n + same s X n + other s Y n
 
-module _ (s : Series) (Y X : ℕ) (above : Y < X) (more : s .term0 Y < s .term0 X)
-    (start : Y + s .term0 X ≤ X + s .term0 Y) (slow : (n : ℕ) → X * X + X * X ≤ ratio s (suc (suc n))) where
+module _ (s : Series) (Y X : ℕ) (above : Y < X) (more : s .term0 Y < s .term0 X) where
   squares : Y * Y ≤ X * X
   squares = mul-le-mul (omega arith) (omega arith)
 
   some : 0 < X * X
   some = mul-pos (omega arith) (omega arith)
 
-  term-rises : (k : ℕ) → num s Y k < num s X k
+  -- every term rises with x
+  pub term-rises : (k : ℕ) → num s Y k < num s X k
   unfolding num
   term-rises zero = more
   term-rises (suc k) =
       omega (arith, mul-le-mul-left (num s Y k) squares, mul-lt-mul-of-pos-right (term-rises k) some)
 
-  two-on : (n : ℕ) → Level s Y X n → Level s Y X (suc (suc n))
-  unfolding num den same
-  two-on n h =
-      let r = term-rises n in
-      let p = heart (num s Y n) (num s X n) (Y * Y) (X * X) (ratio s (suc (suc n))) (omega arith) squares (slow n) in
-      omega (arith, mul-le-mul-right (ratio s (suc n) * ratio s (suc (suc n))) h)
+  module _ (start : Y + s .term0 X ≤ X + s .term0 Y) (slow : (n : ℕ) → X * X + X * X ≤ ratio s (suc (suc n))) where
+    two-on : (n : ℕ) → Level s Y X n → Level s Y X (suc (suc n))
+    unfolding num den same
+    two-on n h =
+        let r = term-rises n in
+        let p = heart (num s Y n) (num s X n) (Y * Y) (X * X) (ratio s (suc (suc n))) (omega arith) squares (slow n) in
+        omega (arith, mul-le-mul-right (ratio s (suc n) * ratio s (suc (suc n))) h)
 
-  pub level : (k : ℕ) → Level s Y X (double k)
-  unfolding num den same
-  level zero = omega arith
-  level (suc k) = two-on (double k) (level k)
+    pub level : (k : ℕ) → Level s Y X (double k)
+    unfolding num den same
+    level zero = omega arith
+    level (suc k) = two-on (double k) (level k)
 
-  one-on : (n : ℕ) → Level s Y X n → Rises s Y X (suc n)
-  unfolding den same
-  one-on n h = omega (arith, term-rises (suc n), mul-le-mul-right (ratio s (suc n)) h)
+    one-on : (n : ℕ) → Level s Y X n → Rises s Y X (suc n)
+    unfolding den same
+    one-on n h = omega (arith, term-rises (suc n), mul-le-mul-right (ratio s (suc n)) h)
 
-  pub rises : (k : ℕ) → Rises s Y X (suc (double k))
-  rises k = one-on (double k) (level k)
+    pub rises : (k : ℕ) → Rises s Y X (suc (double k))
+    rises k = one-on (double k) (level k)
 
 -- x^2 <= 10 up to T, and the second term on is divided by 20 and more
 slow-sine : (X : ℕ) → X ≤ T-units → (n : ℕ) → X * X + X * X ≤ ratio sine (suc (suc n))

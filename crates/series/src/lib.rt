@@ -58,7 +58,7 @@ pub struct Walk {
 const ROUND: u64 = grid::ONE - 1;
 
 // t q / (2^28 divisor), rounded down once: the shift's loss can't reach the next multiple.
-fn term_down(t: u64, q: u64, divisor: u64) -> u64
+pub fn term_down(t: u64, q: u64, divisor: u64) -> u64
     requires { ⌜ TermFits t q divisor ⌝ }
     ensures { λ r. ⌜ r ≡ down (t * q) (one * divisor) ⌝ }
 {
@@ -66,7 +66,7 @@ fn term_down(t: u64, q: u64, divisor: u64) -> u64
 }
 
 // The same, rounded up.
-fn term_up(t: u64, q: u64, divisor: u64) -> u64
+pub fn term_up(t: u64, q: u64, divisor: u64) -> u64
     requires { ⌜ TermFits t q divisor ⌝ }
     ensures { λ r. ⌜ r ≡ up (t * q) (one * divisor) ⌝ }
 {

@@ -3,7 +3,7 @@
 use mathlib.Core.Path.{_≡_}
 use Prim.Native.Nat.{ℕ, suc, _+_, _-_, _*_, _≤_, _<_}
 use native.Mathlib.Omega.{arith}
-use native.Mathlib.Nat.{div-mul-le-self, lt-div-mul-add, le-div-iff-mul-le, div-lt-iff-lt-mul, le-antisymm, lt-of-lt-of-le, lt-of-mul-lt-mul-right}
+use native.Mathlib.Nat.{div-mul-le-self, lt-div-mul-add, le-div-iff-mul-le, div-lt-iff-lt-mul, le-antisymm, lt-of-lt-of-le, lt-of-not-le, lt-of-mul-lt-mul-right, mul-le-mul-right}
 use Rattle.whole.specs.Round.{down, up}
 
 -- rounded down, times the divisor: at most what was divided, and less than one divisor short of it
@@ -27,6 +27,11 @@ up-lt a b h = let k = down-le (a + (b - 1)) b in omega arith
 -- the least such
 pub up-le : (n a b : ℕ) → 0 < b → a ≤ n * b → up a b ≤ n
 up-le n a b h k = let f : up a b < suc n = div-lt-iff-lt-mul h .1 (omega arith) in omega arith
+
+-- something rounded up is not 0
+pub up-some : (a b : ℕ) → 0 < a → 0 < b → 0 < up a b
+up-some a b h B =
+    lt-of-not-le (λ (z : up a b ≤ 0). let e : ⊥ = omega (arith, le-up a b B, mul-le-mul-right b z) in e)
 
 pub down-mono : {a c : ℕ} (b : ℕ) → 0 < b → a ≤ c → down a b ≤ down c b
 down-mono {a} {c} b h k = let f = down-le a b in le-down (down a b) c b h (omega arith)

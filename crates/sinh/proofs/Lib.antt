@@ -1,0 +1,4 @@
+pub mod Answers
+pub mod CodeAdd
+pub mod Limits
+pub mod Truth

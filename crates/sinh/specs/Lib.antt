@@ -1,0 +1,3 @@
+pub mod Sinh
+pub mod Entry
+pub mod Adding
