@@ -167,7 +167,7 @@ pub struct End {
     pub accepted: u32,
 }
 
-fn flag(accepted: bool) -> End
+pub fn flag(accepted: bool) -> End
     ensures { λ r. ⌜ r ≡ flagged accepted ⌝ }
 {
     if accepted {

@@ -7,7 +7,7 @@ use Prim.Native.Nat.{ℕ, _<_}
 use native.Mathlib.Omega.{arith}
 use lib.Dec.{T, ltb, ltb→lt}
 use Rattle.whole.proofs.Bools.{both-parts}
-use Rattle.grid.specs.Codes.{Code, Check, number, limit-check, firstCode, earlier, checked, Passed}
+use Rattle.grid.specs.Codes.{Code, Check, number, limit-check, span-check, firstCode, earlier, checked, Passed}
 use Rattle.grid.specs.Refuses.{FirstFails, Refuses}
 use Rattle.grid.proofs.FirstCode.{coded, CodeOf, goes, stops, passed, in-turn, neither-code}
 
@@ -112,6 +112,11 @@ makes {A} {cs} {code} {zeros} {given} zero keeps t =
 pub limits : (n limit : ℕ) (k : Code) → T (coded (limit-check n limit k ∷ []))
     → Makes (limit-check n limit k ∷ []) (λ (r : ℕ). r) (λ r. r) 0
 limits n limit k t = makes refl (λ r. refl) t
+
+-- the same of one that has a least too
+pub spans : (n least limit : ℕ) (k : Code) → T (coded (span-check n least limit k ∷ []))
+    → Makes (span-check n least limit k ∷ []) (λ (r : ℕ). r) (λ r. r) 0
+spans n least limit k t = makes refl (λ r. refl) t
 
 -- checks one after the other: what the second says counts where the first had no code
 pub then : {cs ds : List Check} {j k : ℕ} {Left Right : Type 0} → T (coded cs) → Says cs j Left → (j ≡ 0 → Says ds k Right)
