@@ -1,1 +1,4 @@
+pub mod Answered
+pub mod Exact
 pub mod Posed
+pub mod Products

@@ -1,0 +1,64 @@
+-- R86: what acceptance says of the exact sum, and that no accepted lower end lies above an accepted upper end. Assumes nothing.
+use mathlib.Core.Path.{_≡_, ap}
+use mathlib.Core.Bool.{Bool, true, false, not}
+use Prim.Native.Nat.{ℕ, _+_, _-_, _*_, _≤_, _<_}
+use native.Mathlib.Omega.{arith}
+use native.Mathlib.Nat.{mul-le-mul-left, mul-le-mul-right, mul-lt-mul-of-pos-left, le-of-lt, lt-of-not-le}
+use native.Mathlib.Decide.{decLe}
+use lib.Dec.{T, leb→le, le→leb, not-T}
+use Rattle.grid.specs.Grid.{one}
+use Rattle.grid.specs.Flyby.{X-top}
+use Rattle.sinh.specs.Sinh.{low, high, S, t9, denS}
+use Rattle.sinh.proofs.Limits.{high-zero, low-zero, low-lt-high}
+use Rattle.sinh.proofs.Truth.{low-true, high-true, rises}
+use Rattle.flyby.specs.Ends.{endAt, Meets}
+
+module _ (m b X : ℕ) where
+  upper-is : T (endAt true m b X) → one * (X + m) ≤ b * low X
+  unfolding endAt
+  upper-is t = leb→le (one * (X + m)) (b * low X) t
+
+  lower-is : T (endAt false m b X) → b * high X ≤ one * (X + m)
+  unfolding endAt
+  lower-is t = leb→le (b * high X) (one * (X + m)) t
+
+  -- R86: for any M and B
+  pub end-true : (upper : Bool) → T (endAt upper m b X) → Meets upper m b X
+  end-true true t =
+      omega (arith, mul-le-mul-right denS (upper-is t), mul-le-mul-left b (low-true X))
+  end-true false t =
+      omega (arith, mul-le-mul-right denS (lower-is t), mul-le-mul-left b (high-true X))
+
+  -- one X is not both, but 0 may be
+  pub not-both : 0 < b → 0 < X → T (endAt true m b X) → T (endAt false m b X) → ⊥
+  not-both some h t s = omega (arith, upper-is t, lower-is s, mul-lt-mul-of-pos-left (low-lt-high X h) some)
+
+-- e S(x) - x rises with x, as e is at least 1: so a lower end's inequality at X and an upper end's at Y have X not above Y
+exact-apart : (m b X Y : ℕ) → one ≤ b → Meets false m b X → Meets true m b Y → X ≤ Y
+exact-apart m b X Y e p q =
+    elim (decLe X Y) [
+      | yes h ↦ h
+      | no n ↦
+          let h = lt-of-not-le n in
+          let r = rises Y X h in
+          let k : ℕ = b - one in
+          let f : b ≡ one + k = omega arith in
+          let x : b * S X ≡ (one + k) * S X = ap (λ (j : ℕ). j * S X) f in
+          let y : b * S Y ≡ (one + k) * S Y = ap (λ (j : ℕ). j * S Y) f in
+          let more : S Y ≤ S X = omega (arith, mul-le-mul-right denS (le-of-lt h)) in
+          absurd (let z : ⊥ = omega (arith, mul-le-mul-left k more) in z)
+    ]
+
+pub apart : (m b X Y : ℕ) → one ≤ b → T (endAt false m b X) → T (endAt true m b Y) → X ≤ Y
+apart m b X Y e p q = exact-apart m b X Y e (end-true m b X false p) (end-true m b Y true q)
+
+-- ---- the ends of the search
+
+-- 0 is always a lower end, and an upper one where M is 0
+pub zero-lower : (m b : ℕ) → T (endAt false m b 0)
+unfolding endAt
+zero-lower m b = le→leb (b * high 0) (one * (0 + m)) (rw high-zero (omega arith))
+
+-- where the top is an upper end it is no lower one
+pub top-never : (m b : ℕ) → one ≤ b → T (endAt true m b X-top) → T (not (endAt false m b X-top))
+top-never m b e t = not-T (endAt false m b X-top) (not-both m b X-top (omega arith) (omega arith) t)
