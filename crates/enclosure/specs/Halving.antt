@@ -3,6 +3,7 @@ use Prim.Native.Nat.{ℕ, zero, suc, _+_, _-_, _/_}
 use mathlib.Core.Bool.{Bool, not, cond}
 use lib.Dec.{ltb}
 use Rattle.enclosure.specs.declared.Bracket.{Bracket}
+use Rattle.enclosure.specs.declared.Found.{Found}
 
 -- R25: where a search begins
 abbrev pub widest : ℕ → Bracket
@@ -41,3 +42,7 @@ lowerSearch acc top = lastBracket acc top .p
 -- the answer
 abbrev pub upperSearch : (ℕ → Bool) → ℕ → ℕ
 upperSearch acc top = cond (acc 0) 0 (lastBracket (λ X. not (acc X)) top .q)
+
+-- R26, R27: both, by the tests of lower and of upper ends
+abbrev pub searched : (ℕ → Bool) → (ℕ → Bool) → ℕ → Found
+searched lower upper top = record { a = lowerSearch lower top; b = upperSearch upper top }

@@ -29,9 +29,9 @@ pub struct Found {
 }
 
 // Where a search stands.
-struct Bracket {
-    p: u32,
-    q: u32,
+pub struct Bracket {
+    pub p: u32,
+    pub q: u32,
 }
 
 // Whether a search moves p to x: that of an upper end where x is not accepted, that of a lower end where it is.
@@ -65,7 +65,7 @@ fn last_bracket(problem: Problem, upper: bool) -> Bracket
     Bracket { p, q }
 }
 
-fn refused(code: u32) -> Enclosure
+pub fn refused(code: u32) -> Enclosure
     ensures { λ r. ⌜ r ≡ refusal code ⌝ }
 {
     Enclosure {
@@ -76,7 +76,7 @@ fn refused(code: u32) -> Enclosure
 }
 
 // R59: the ends a and b that were found, or on the mirror -b and -a.
-fn between(a: u32, b: u32, mirrored: bool) -> Enclosure
+pub fn between(a: u32, b: u32, mirrored: bool) -> Enclosure
     requires { ⌜ EndsIn a b ⌝ }
     ensures { λ r. ⌜ r ≡ mirrorEnds mirrored a b ⌝ }
 {

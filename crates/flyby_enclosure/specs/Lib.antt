@@ -1,0 +1,2 @@
+pub mod Enclosure
+pub mod Moves
