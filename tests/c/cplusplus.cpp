@@ -1,5 +1,6 @@
-// cplusplus.cpp: the header in a C++ program, with calls of every entry for
-// M of either sign. Every code is held to the one that is due, 0 or another.
+// cplusplus.cpp: the header in a C++ program, with calls of every entry, for
+// M of either sign where it has one. Every code is held to the one that is
+// due, 0 or another.
 #include <cstdio>
 #include <cstring>
 #include <limits>
@@ -196,6 +197,28 @@ static void refused_doubles()
     check("bad distance_double", o.code, 2, o.least == 0 && o.most == 0);
 }
 
+// The entries of flybys, answered and refused.
+static void flybys()
+{
+    const uint32_t one = STRIPEAWN_FLYBY_B_MIN, m = STRIPEAWN_FLYBY_M_MAX;
+    stripeawn_bounds s = stripeawn_flyby_sinh(STRIPEAWN_FLYBY_X_MAX);
+    stripeawn_end l = stripeawn_flyby_lower_end(0, 7, one);
+    stripeawn_end u = stripeawn_flyby_upper_end(0, 7, m);
+    stripeawn_enclosure e = stripeawn_flyby_enclose(m, STRIPEAWN_FLYBY_B_MAX);
+    stripeawn_enclosure no = stripeawn_flyby_enclose(m, one);
+    stripeawn_verdict v = stripeawn_flyby_judge(0, one, 0.001953125, 1000);
+    stripeawn_verdict bad = stripeawn_flyby_judge(0, one, -1.0, 1000);
+
+    check("flyby_sinh", s.code, 0, s.lo == 973577924 && s.hi == 973577934);
+    check("flyby_lower_end", l.code, 0, l.accepted == 1);
+    check("bad flyby_upper_end", u.code, 2, u.accepted == 0);
+    check("flyby_enclose", e.code, 0, e.lower == 432299576 &&
+                                          e.upper == 432299581);
+    check("no flyby_enclose", no.code, 15, no.lower == 0 && no.upper == 0);
+    check("flyby_judge", v.code, 0, v.verdict == STRIPEAWN_REFUTED);
+    check("bad flyby_judge", bad.code, 4, bad.verdict == 0);
+}
+
 // A batch over whole vectors; the data of an empty one may be NULL.
 static void batch(const char *call, const bytes &claims, bytes &answers,
                   uint32_t due, const bytes &wanted)
@@ -258,6 +281,7 @@ int main()
     refused_steps();
     doubles();
     refused_doubles();
+    flybys();
     batches();
     figures();
     names();

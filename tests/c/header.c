@@ -1,7 +1,8 @@
 /*
 ** header.c: the numbers that the header names, their names in words, the
 ** layout of results, the types of the entries for doubles, of cosine, steps
-** and figures, and what the notes on doubles say of M in degrees.
+** and figures, and what the notes on doubles say of M in degrees. Limits and
+** entries of flybys are in flyby_header.c.
 */
 #include <math.h>
 #include <stddef.h>
@@ -72,6 +73,7 @@ static void test_codes(void)
     named(HERE, STRIPEAWN_SHORT_ANSWERS, 8);
     named(HERE, STRIPEAWN_BAD_RESERVED, 9);
     named(HERE, STRIPEAWN_BAD_X, 10);
+    named(HERE, STRIPEAWN_NO_FLYBY_END, 15);
     named(HERE, STRIPEAWN_BAD_METHOD, 21);
     named(HERE, STRIPEAWN_NEWTON, 1);
     named(HERE, STRIPEAWN_HALLEY, 2);
@@ -106,7 +108,7 @@ static void test_version(void)
 static const char *const names[] = {
     "done",
     "M out of range",
-    "A or e out of range",
+    "A, B or e out of range",
     "depth not 1 to 5",
     "estimate out of range",
     "N too large",
@@ -115,7 +117,8 @@ static const char *const names[] = {
     "answers buffer too short",
     "reserved byte not zero",
     "angle X out of range",
-    NULL, NULL, NULL, NULL, NULL,
+    NULL, NULL, NULL, NULL,
+    "no enclosure up to 2^29 units",
     "Confirmed",
     "Refuted",
     "Undecided",

@@ -33,6 +33,13 @@ int main(void)
     test_cells();
     test_roots();
     test_laws();
+    test_flyby_header();
+    test_flyby();
+    test_flyby_enclose();
+    test_flyby_judge();
+    test_flyby_estimates();
+    test_flyby_laws();
+    test_flyby_order();
     test_batch();
     test_buffers();
     test_threads();

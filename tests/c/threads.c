@@ -10,7 +10,8 @@
 
 #include "check.h"
 
-enum { THREADS = 4, ORBITS = 200, STEPS = 20000, STACK = 65536 };
+enum { THREADS = 4, ORBITS = 200, STEPS = 20000, FLYBYS = 2000,
+       STACK = 65536 };
 
 /* Sums of everything that one pass over the entries returns. */
 struct sums {
@@ -19,7 +20,8 @@ struct sums {
 
 struct totals {
     uint64_t sine, cosine, answers, steps, judged_steps, judged_verdicts;
-    struct sums on_grid, of_doubles;
+    uint64_t flyby_sinh;
+    struct sums on_grid, of_doubles, flybys;
 };
 
 /* The entries that take M, on the grid or as doubles. */
@@ -57,7 +59,22 @@ static void add_steps(struct totals *t, int32_t m, uint32_t a,
     }
 }
 
-/* All entries; M and e as doubles are a third of a unit off the grid. */
+/* The entries of flybys; the estimate is a lower end. */
+static void add_flyby(struct totals *t, uint32_t m, uint32_t b)
+{
+    struct stripeawn_enclosure e = stripeawn_flyby_enclose(m, b);
+    uint32_t x = (uint32_t)e.lower;
+    struct stripeawn_bounds s = stripeawn_flyby_sinh(x);
+    struct sums *f = &t->flybys;
+
+    t->flyby_sinh += (uint64_t)s.lo * 3 + (uint64_t)s.hi;
+    f->ends += stripeawn_flyby_lower_end(x, m, b).accepted * 3 +
+               stripeawn_flyby_upper_end(x, m, b).accepted;
+    f->enclosures += (uint64_t)e.lower * 3 + (uint64_t)e.upper + e.code;
+    f->verdicts += stripeawn_flyby_judge(m, b, units(e.lower), 9).verdict;
+}
+
+/* All others; M and e as doubles are a third of a unit off the grid. */
 static void add_orbit(struct totals *t, int32_t m, uint32_t a, uint32_t depth)
 {
     struct stripeawn_bounds s = stripeawn_sine(m < 0 ? -m : m, depth);
@@ -111,6 +128,11 @@ static void *run(void *given)
         add_orbit(t, i % 2 ? -size : size, a, i % 5 + 1);
     }
     add_all_steps(t, &random);
+    for (i = 0; i < FLYBYS; i++) {
+        uint32_t m = next(&random, H + 1);
+
+        add_flyby(t, m, ONE + next(&random, ONE + 1));
+    }
     return NULL;
 }
 
@@ -127,6 +149,8 @@ static int same(const struct totals *s, const struct totals *t)
            s->answers == t->answers && s->steps == t->steps &&
            s->judged_steps == t->judged_steps &&
            s->judged_verdicts == t->judged_verdicts &&
+           s->flyby_sinh == t->flyby_sinh &&
+           same_sums(s->flybys, t->flybys) &&
            same_sums(s->on_grid, t->on_grid) &&
            same_sums(s->of_doubles, t->of_doubles);
 }
@@ -152,6 +176,9 @@ static void all_answered(const struct totals *t)
     check(HERE,
           t->on_grid.distances >= ORBITS && t->of_doubles.distances >= ORBITS,
           "not every orbit has a distance");
+    check(HERE,
+          t->flybys.verdicts >= 16 * FLYBYS && t->flybys.ends >= 3 * FLYBYS,
+          "not every flyby is judged from a lower end");
     check(HERE, t->steps == t->judged_steps && t->steps != 0,
           "steps and judged steps differ");
     check(HERE, t->judged_verdicts >= 16 * STEPS,
