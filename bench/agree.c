@@ -7,7 +7,8 @@
 ** takes none, is called with four tolerances, and held against the library's
 ** own judge too, tried at one depth after the other. distance, which takes
 ** neither, is called with four estimates in place of one. agree_double.c has
-** the entries that take M and e as doubles, agree_step.c cosine and steps.
+** the entries that take M and e as doubles, agree_step.c cosine and steps,
+** agree_flyby.c flybys.
 */
 #include <math.h>
 #include <stdio.h>
@@ -233,5 +234,6 @@ int sides_agree(void)
     compare_limits();
     compare_doubles();
     compare_steps();
+    compare_flybys();
     return none_differ();
 }

@@ -13,4 +13,7 @@ void compare_doubles(void);
 /* The same with cosine and steps. */
 void compare_steps(void);
 
+/* The same with flybys. */
+void compare_flybys(void);
+
 #endif

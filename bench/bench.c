@@ -15,12 +15,14 @@
 ** The library makes no more terms of a series once they are spent: after one
 ** pair at small angles, which are most of what an enclosure tests near M = 0.
 ** The plain C version has no such stop, so that the three rows with such
-** inputs show what stopping gains. bench_step.c has cosine and steps.
+** inputs show what stopping gains. bench_step.c has cosine and steps,
+** bench_flyby.c flybys.
 */
 #include <stdio.h>
 #include <stdlib.h>
 
 #include "agree.h"
+#include "bench_flyby.h"
 #include "bench_step.h"
 #include "both_sides.h"
 #include "shares.h"
@@ -155,6 +157,7 @@ static void measure_grid(long rounds)
     measure("settle", library_settle, plain_settle_pass, rounds);
     measure("distance", library_distance, plain_distance_pass, rounds);
     measure_steps(rounds);
+    measure_flybys(rounds);
     measure("judge_claims, a claim", library_batch, plain_batch_pass, rounds);
 }
 
@@ -228,8 +231,8 @@ static void measure_distance(long rounds)
 
 static void measure_all(long rounds)
 {
-    printf("nanoseconds a call at depth 5 (settle, distance and step take "
-           "none), least of %ld rounds\n", rounds);
+    printf("nanoseconds a call at depth 5 (settle, distance, step and flyby "
+           "take none), least of %ld rounds\n", rounds);
     print_heading("library", "plain C");
     measure_grid(rounds);
     measure_doubles(rounds);

@@ -14,6 +14,7 @@ struct doubles on_grid[INPUTS], off_grid[INPUTS];
 int32_t small_anomalies[INPUTS], small_angles[INPUTS];
 uint32_t great_eccentricities[INPUTS];
 struct start starts[INPUTS];
+struct flyby flybys[INPUTS];
 
 static uint64_t state = UINT64_C(88172645463325252);
 
@@ -152,6 +153,53 @@ static void make_starts(void)
     state = kept;
 }
 
+/* Of most M and e there is an enclosure; where there is none, others. */
+static struct flyby any_flyby(void)
+{
+    struct flyby f = { 0, 0, 0, 0.0 };
+    struct stripeawn_enclosure r;
+
+    do {
+        f.m = draw(STRIPEAWN_FLYBY_M_MAX);
+        f.b = STRIPEAWN_FLYBY_B_MIN +
+              draw(STRIPEAWN_FLYBY_B_MAX - STRIPEAWN_FLYBY_B_MIN);
+        r = plain_flyby_enclose(f.m, f.b);
+    } while (r.code != 0);
+    f.x = (uint32_t)near_root(r.lower);
+    return f;
+}
+
+/* Not below 0 and not above 2 radians. */
+static double flyby_estimate(uint32_t x)
+{
+    uint32_t place = draw(2);
+    double units = x;
+
+    if (place == 1)
+        units += draw(400) - 200.0;
+    if (place == 2)
+        units = draw(STRIPEAWN_FLYBY_X_MAX);
+    if (units < 0.0)
+        units = 0.0;
+    if (units > STRIPEAWN_FLYBY_X_MAX)
+        units = STRIPEAWN_FLYBY_X_MAX;
+    return draw(1) != 0 ? units * STRIPEAWN_UNIT : less_a_part(units);
+}
+
+/* By a sequence of its own too. */
+static void make_flybys(void)
+{
+    uint64_t kept = state;
+    int i;
+
+    state = UINT64_C(2862933555777941757);
+    for (i = 0; i < INPUTS; i++) {
+        flybys[i] = any_flyby();
+        flybys[i].estimate = flyby_estimate(flybys[i].x);
+    }
+    state = kept;
+}
+
 struct doubles draw_orbit(enum orbits kind)
 {
     int parabolic = kind == NEAR_PARABOLIC, off = kind == ANY_OFF_GRID;
@@ -199,4 +247,5 @@ void make_inputs(void)
     make_double_inputs();
     make_small_inputs();
     make_starts();
+    make_flybys();
 }

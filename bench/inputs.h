@@ -35,6 +35,14 @@ struct start {
 
 extern struct start starts[INPUTS];
 
+/* A flyby, an x and an estimate. */
+struct flyby {
+    uint32_t m, b, x;
+    double estimate;
+};
+
+extern struct flyby flybys[INPUTS];
+
 /*
 ** Any orbit with M not below 0, an angle near its root, and an estimate some
 ** units off it. The doubles on the grid are the same orbits, angles and
@@ -47,6 +55,10 @@ extern struct start starts[INPUTS];
 ** Then where steps are taken from: any orbit with M of either sign, either
 ** method, and an estimate at M, near the root or anywhere, off the grid but
 ** for M.
+**
+** Then flybys, with any M and e of which there is an enclosure, an x near the
+** root, and an estimate that is right, some units off to either side or
+** anywhere, on the grid or off it.
 */
 void make_inputs(void);
 

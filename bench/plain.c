@@ -6,7 +6,7 @@
 ** proposal, four ends for a verdict, a few doubles for a step, which
 ** plain_sine.h, plain_cosine.h, plain_cell.h, plain_judge.h and plain_step.h
 ** have. All this is for M not below 0; plain_mirror.c has the entries for
-** every M. On the grid a cell is one point.
+** every M. On the grid a cell is one point. plain_flyby.c has flybys.
 */
 #include "plain_cell.h"
 #include "plain_cosine.h"

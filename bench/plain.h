@@ -61,6 +61,19 @@ struct stripeawn_settled plain_settle_double(double m, double e,
 struct stripeawn_off plain_distance_double(double m, double e,
                                            double estimate);
 
+struct stripeawn_bounds plain_flyby_sinh(uint32_t x);
+
+struct stripeawn_end plain_flyby_lower_end(uint32_t x, uint32_t m,
+                                           uint32_t b);
+
+struct stripeawn_end plain_flyby_upper_end(uint32_t x, uint32_t m,
+                                           uint32_t b);
+
+struct stripeawn_enclosure plain_flyby_enclose(uint32_t m, uint32_t b);
+
+struct stripeawn_verdict plain_flyby_judge(uint32_t m, uint32_t b,
+                                           double estimate, uint32_t n);
+
 struct stripeawn_batch plain_judge_claims(const uint8_t *claims,
                                           size_t claims_len,
                                           uint8_t *answers,

@@ -13,7 +13,8 @@ from fractions import Fraction
 from pathlib import Path
 
 LEFT_OUT = "..."
-EXAMPLES = ("examples/first.c", "examples/flattered.c", "examples/newton.c")
+FIRST, LOOP = "examples/first.c", "examples/newton.c"
+EXAMPLES = (FIRST, "examples/flattered.c", LOOP, "examples/flyby.c")
 FOLDERS = "scripts|examples|docs|include|tests|bench|crates|plot"
 ECCENTRICITIES = ("0", "0.5", "0.9", "0.99", "0.999")
 ONE, N_MAX = 2 ** 28, 65535
@@ -61,21 +62,20 @@ def function(source, name):
 
 def check_blocks(text, output):
     """The first block of code is the first example, the second the loop of
-    the last one; the blocks of output are those of all examples, of which any
+    judged steps; the blocks of output are those of all examples, of which any
     but the first may leave rows out."""
     shell, code, printed = (blocks(text, language)
                             for language in ("sh", "c", "text"))
     if (len(shell), len(code), len(printed),
-            text.count("```")) != (1, 2, 3, 12):
-        yield "there are other blocks than one sh, two c and three text"
+            text.count("```")) != (1, 2, 4, 14):
+        yield "there are other blocks than one sh, two c and four text"
         return
-    first, last = EXAMPLES[0], EXAMPLES[-1]
-    yield from held(first, code[0], Path(first).read_text().splitlines())
-    yield from held(last, code[1], function(Path(last).read_text(), "iterate"))
+    yield from held(FIRST, code[0], Path(FIRST).read_text().splitlines())
+    yield from held(LOOP, code[1], function(Path(LOOP).read_text(), "iterate"))
     run = sections(output)
     for name, shown in zip(EXAMPLES, printed):
         yield from held(f"{name}'s output", shown, run.get(name, []),
-                        name != first)
+                        name != FIRST)
 
 
 def figures(e):
