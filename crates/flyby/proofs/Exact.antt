@@ -1,5 +1,5 @@
 -- R86: what acceptance says of the exact sum, and that no accepted lower end lies above an accepted upper end. Assumes nothing.
-use mathlib.Core.Path.{_≡_, ap}
+use mathlib.Core.Path.{_≡_, ap, subst}
 use mathlib.Core.Bool.{Bool, true, false, not}
 use Prim.Native.Nat.{ℕ, _+_, _-_, _*_, _≤_, _<_}
 use native.Mathlib.Omega.{arith}
@@ -9,7 +9,7 @@ use lib.Dec.{T, leb→le, le→leb, not-T}
 use Rattle.grid.specs.Grid.{one}
 use Rattle.grid.specs.Flyby.{X-top}
 use Rattle.sinh.specs.Sinh.{low, high, S, t9, denS}
-use Rattle.sinh.proofs.Limits.{high-zero, low-zero, low-lt-high}
+use Rattle.sinh.proofs.Limits.{high-zero, low-lt-high, low-steep, high-steep}
 use Rattle.sinh.proofs.Truth.{low-true, high-true, rises}
 use Rattle.flyby.specs.Ends.{endAt, Meets}
 
@@ -51,6 +51,35 @@ exact-apart m b X Y e p q =
 
 pub apart : (m b X Y : ℕ) → one ≤ b → T (endAt false m b X) → T (endAt true m b Y) → X ≤ Y
 apart m b X Y e p q = exact-apart m b X Y e (end-true m b X false p) (end-true m b Y true q)
+
+-- ---- R86: accepted ends are unbroken runs, as e times a bound grows no slower than X
+
+module _ (m b : ℕ) (e : one ≤ b) where
+  steep : (s t j : ℕ) → s + j ≤ t → b * s + one * j ≤ b * t
+  steep s t j h = omega (arith, mul-le-mul-left b h, mul-le-mul-right j e)
+
+  lower-back : (Y j : ℕ) → T (endAt false m b (Y + j)) → T (endAt false m b Y)
+  unfolding endAt
+  lower-back Y j t =
+      le→leb (b * high Y) (one * (Y + m))
+      (omega (arith, lower-is m b (Y + j) t, steep (high Y) (high (Y + j)) j (high-steep Y j)))
+
+  upper-on : (Y j : ℕ) → T (endAt true m b Y) → T (endAt true m b (Y + j))
+  unfolding endAt
+  upper-on Y j t =
+      le→leb (one * (Y + j + m)) (b * low (Y + j))
+      (omega (arith, upper-is m b Y t, steep (low Y) (low (Y + j)) j (low-steep Y j)))
+
+  -- below a lower end all are lower ends, and above an upper end all are upper ends
+  pub lower-run : (X Y : ℕ) → Y ≤ X → T (endAt false m b X) → T (endAt false m b Y)
+  lower-run X Y h t =
+      let f : X ≡ Y + (X - Y) = omega arith in
+      lower-back Y (X - Y) (subst (λ (n : ℕ). T (endAt false m b n)) f t)
+
+  pub upper-run : (X Y : ℕ) → Y ≤ X → T (endAt true m b Y) → T (endAt true m b X)
+  upper-run X Y h t =
+      let f : Y + (X - Y) ≡ X = omega arith in
+      subst (λ (n : ℕ). T (endAt true m b n)) f (upper-on Y (X - Y) t)
 
 -- ---- the ends of the search
 
