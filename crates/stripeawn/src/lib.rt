@@ -11,6 +11,9 @@ ghost use Rattle.judge.specs.Judge.{judgeRule};
 ghost use Rattle.judge.specs.Settle.{settleRule};
 ghost use Rattle.distance.specs.Distance.{distanceRule};
 ghost use Rattle.step.specs.Entry.{stepRule, judgedRule};
+ghost use Rattle.sinh.specs.Entry.{sinhRule};
+ghost use Rattle.flyby.specs.Entry as flyby_ends;
+ghost use Rattle.flyby_enclosure.specs.Enclosure as flyby_enclosure;
 ghost use Rattle.claims.specs.Form.{twenty};
 ghost use Rattle.claims.specs.Batch.{batchRule, answersAfter};
 use claims::Batch;
@@ -161,6 +164,34 @@ pub extern "C" fn stripeawn_step_judged(
     ensures { λ r. ⌜ r ≡ judgedRule m a estimate method n depth ⌝ }
 {
     step::step_judged(m, a, estimate, method, n, depth)
+}
+
+#[no_mangle]
+pub extern "C" fn stripeawn_flyby_sinh(x: u32) -> Bounds
+    ensures { λ r. ⌜ r ≡ sinhRule x ⌝ }
+{
+    sinh::sinh(x)
+}
+
+#[no_mangle]
+pub extern "C" fn stripeawn_flyby_lower_end(x: u32, m: u32, b: u32) -> End
+    ensures { λ r. ⌜ r ≡ flyby_ends.lowerRule x m b ⌝ }
+{
+    flyby::lower_end(x, m, b)
+}
+
+#[no_mangle]
+pub extern "C" fn stripeawn_flyby_upper_end(x: u32, m: u32, b: u32) -> End
+    ensures { λ r. ⌜ r ≡ flyby_ends.upperRule x m b ⌝ }
+{
+    flyby::upper_end(x, m, b)
+}
+
+#[no_mangle]
+pub extern "C" fn stripeawn_flyby_enclose(m: u32, b: u32) -> Enclosure
+    ensures { λ r. ⌜ r ≡ flyby_enclosure.enclosureRule m b ⌝ }
+{
+    flyby_enclosure::enclose(m, b)
 }
 
 #[no_mangle]
