@@ -14,7 +14,6 @@ use Rattle.orbit.specs.Given.{cellOf, problemChecks}
 use Rattle.orbit.proofs.Posed.{problem-in}
 use Rattle.units.specs.Units.{estimate-check}
 use Rattle.units.proofs.Rounding.{estimate-fits}
-use Rattle.judge.specs.Verdict.{verdictNumber}
 use Rattle.judge.specs.Judge.{Claim, estimateOf, claimChecks, caseAt, caseVerdict, verdict, unjudged, judgeRule}
 use Rattle.judge.specs.Settle.{settledBy, unsettled}
 use Rattle.judge.specs.Decision.{settledRule}
@@ -23,7 +22,8 @@ use Rattle.judge.specs.Limits.{CaseIn}
 use Rattle.judge.specs.declared.Judged.{Judged}
 use Rattle.judge.specs.declared.Settled.{Settled}
 use Rattle.judge.specs.declared.Verdict.{Verdict}
-use Rattle.judge.specs.declared.Verdict.the-variants.{Confirmed, Refuted, Undecided}
+use Rattle.judge.specs.declared.Verdict.the-variants.{Confirmed, Refuted}
+use Rattle.judge.proofs.Verdicts.{one-verdict}
 use Rattle.judge.proofs.Settles.{depth-few, from-depth}
 use Rattle.judge.proofs.Kept.{is-confirmed, is-refuted, confirmed-exact, refuted-exact, confirmed-kept, refuted-kept}
 
@@ -67,18 +67,6 @@ judged-is k =
     let h = case-in k p in
     ap verdict (from-depth (caseAt k) h (k .depth) (depth-few (caseAt k) h) (omega arith)))
     ∙ sym (through toJudged unsettled (settledBy (caseAt k)) (claimChecks k))
-
--- a verdict's number is its own
-one-verdict : (v w : Verdict) → verdictNumber v ≡ verdictNumber w → v ≡ w
-one-verdict Confirmed Confirmed e = refl
-one-verdict Refuted Refuted e = refl
-one-verdict Undecided Undecided e = refl
-one-verdict Confirmed Refuted e = absurd (let z : ⊥ = omega arith in z)
-one-verdict Confirmed Undecided e = absurd (let z : ⊥ = omega arith in z)
-one-verdict Refuted Confirmed e = absurd (let z : ⊥ = omega arith in z)
-one-verdict Refuted Undecided e = absurd (let z : ⊥ = omega arith in z)
-one-verdict Undecided Confirmed e = absurd (let z : ⊥ = omega arith in z)
-one-verdict Undecided Refuted e = absurd (let z : ⊥ = omega arith in z)
 
 module _ (k : Claim) where
   -- the verdict answered is the case's

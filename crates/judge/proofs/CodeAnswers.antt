@@ -4,11 +4,10 @@ use native.Mathlib.Omega.{arith}
 use borrow.Author.Tests.{ltb-true}
 use Rattle.grid.specs.Grid.{N-units}
 use Rattle.grid.proofs.Outcomes.{of-checked}
-use Rattle.judge.specs.Verdict.{verdictNumber}
 use Rattle.judge.specs.Judge.{Claim, claimChecks, caseAt, caseVerdict, verdict, unjudged, judgeRule}
 use Rattle.judge.specs.declared.Judged.{Judged}
 use Rattle.judge.specs.declared.Verdict.{Verdict}
-use Rattle.judge.specs.declared.Verdict.the-variants.{Confirmed, Refuted, Undecided}
+use Rattle.judge.proofs.Verdicts.{verdict-small}
 
 -- what holds of each holds of the judge's answer; code 5 is given only for a tolerance above its limit
 module _ (P : Judged → Type 0) (m : P (unjudged 1)) (a : P (unjudged 2)) (depth : P (unjudged 3)) (estimate : P (unjudged 4))
@@ -19,11 +18,6 @@ module _ (P : Judged → Type 0) (m : P (unjudged 1)) (a : P (unjudged 2)) (dept
       let w = caseVerdict (caseAt c) in
       of-checked P unjudged (verdict w) (claimChecks c)
       (λ t. m, (λ t. a, (λ t. depth, (λ t. estimate, (λ t. tolerance (ltb-true _ _ t), tt))))) (λ p. v w)
-
-verdict-small : (v : Verdict) → verdictNumber v ≤ 18
-verdict-small Confirmed = omega arith
-verdict-small Refuted = omega arith
-verdict-small Undecided = omega arith
 
 -- so each is a byte
 pub judged-small : (c : Claim) → (judgeRule c .code ≤ 10) × (judgeRule c .verdict ≤ 18)

@@ -62,7 +62,7 @@ module _ (m a : ℕ) (u : Units) (n : ℕ) (mean : m ≤ H-units) (small : a ≤
 
   pub far-below : (X k : ℕ) → X ≤ T-units → T (lowerEnd cell depths X) → X ≡ u .floor + n + 1 + k → 32 * a ≤ k * (one - a) → T (refuted cell depths u n)
   far-below X k w t e far =
-      refuted-by cell u n .1
+      refuted-by cell u n depths .1
       (inl
       (record {
         within = omega arith;
@@ -71,7 +71,7 @@ module _ (m a : ℕ) (u : Units) (n : ℕ) (mean : m ≤ H-units) (small : a ≤
 
   pub far-above : (Y k : ℕ) → u .ceiling ≤ T-units → T (upperEnd cell depths Y) → u .ceiling ≡ Y + k + (n + 1) → 32 * a ≤ k * (one - a) → T (refuted cell depths u n)
   far-above Y k w t e far =
-      refuted-by cell u n .1
+      refuted-by cell u n depths .1
       (inr
       (record {
         within = omega arith;

@@ -1,3 +1,4 @@
+pub mod Verdicts
 pub mod Kept
 pub mod Figures
 pub mod Settles

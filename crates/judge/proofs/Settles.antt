@@ -18,13 +18,14 @@ use Rattle.ends.proofs.Apart.{apart}
 use Rattle.ends.proofs.Least.{Least}
 use Rattle.units.specs.Limits.{UnitsIn}
 use Rattle.units.specs.declared.Units.{Units}
-use Rattle.judge.specs.Verdict.{confirmed, lowerAbove, upperBelow, refuted, verdictOf}
+use Rattle.judge.specs.Verdict.{refutedBy, verdictBy, testsAt, confirmed, lowerAbove, upperBelow, refuted, verdictOf}
 use Rattle.judge.specs.Settle.{decides, verdictAt, settledDepth}
 use Rattle.judge.specs.Limits.{CaseIn}
 use Rattle.judge.specs.declared.Case.{Case}
 use Rattle.judge.specs.declared.Verdict.{Verdict}
 use Rattle.judge.specs.declared.Verdict.the-variants.{Confirmed, Refuted, Undecided}
-use Rattle.judge.proofs.Kept.{confirmed-deeper, above-deeper, below-deeper, never-both, verdict-refuted, verdict-undecided, confirmed-kept, refuted-kept}
+use Rattle.judge.proofs.Verdicts as verdicts
+use Rattle.judge.proofs.Kept.{confirmed-deeper, above-deeper, below-deeper, never-both, confirmed-kept, refuted-kept}
 
 -- what a depth decides, it confirms or refutes
 decides-either : (a b : Bool) → decides (cond a Confirmed (cond b Refuted Undecided)) ≡ (a || b)
@@ -43,7 +44,7 @@ module _ (c : Cell) (u : Units) (n : ℕ) where
     below : T (upperBelow c d u n) → ⊥
 
   decided-is : (d : ℕ) → decidesAt d ≡ (confirmed c d u n || refuted c d u n)
-  unfolding verdictOf
+  unfolding verdictBy
   decided-is d = decides-either (confirmed c d u n) (refuted c d u n)
 
   confirmed-decides : (d : ℕ) → T (confirmed c d u n) → T (decidesAt d)
@@ -53,7 +54,7 @@ module _ (c : Cell) (u : Units) (n : ℕ) where
   refuted-decides d t = subst T (sym (decided-is d)) (either (confirmed c d u n) (refuted c d u n) (inr t))
 
   never : {d : ℕ} → Never d → T (decidesAt d) → ⊥
-  unfolding refuted
+  unfolding refutedBy
   never {d} h t =
       ⊎-elim (h .confirms)
       (λ r. ⊎-elim (h .above) (h .below) (either-part (lowerAbove c d u n) (upperBelow c d u n) r))
@@ -92,7 +93,7 @@ module _ (c : Cell) (u : Units) (n : ℕ) where
 
     pub by-below : (k : ℕ) → confirmed c last u n ≡ false → lowerAbove c last u n ≡ false → Least (λ d. upperBelow c d u n) last k
         → firstFrom decidesAt 1 (last - 1) ≡ k
-    unfolding refuted
+    unfolding refutedBy
     by-below k p q h =
         let few = h .few in
         decides-first k (h .some) few
@@ -119,7 +120,7 @@ module _ (c : Cell) (u : Units) (n : ℕ) where
 
       pub by-above : (k : ℕ) → confirmed c last u n ≡ false → Least (λ d. lowerAbove c d u n) last k
           → firstFrom decidesAt 1 (last - 1) ≡ k
-      unfolding refuted
+      unfolding refutedBy
       by-above k p h =
           let few = h .few in
           decides-first k (h .some) few
@@ -132,7 +133,7 @@ module _ (c : Cell) (u : Units) (n : ℕ) where
           (λ i. refuted-decides k (either (lowerAbove c k u n) (upperBelow c k u n) (inl (h .here))))
 
       pub by-confirmed : (k : ℕ) → Least (λ d. confirmed c d u n) last k → firstFrom decidesAt 1 (last - 1) ≡ k
-      unfolding refuted
+      unfolding refutedBy
       by-confirmed k h =
           let few = h .few in
           decides-first k (h .some) few
@@ -149,14 +150,10 @@ module _ (c : Cell) (u : Units) (n : ℕ) where
 
   module _ (d : ℕ) (p : confirmed c d u n ≡ false) where
     pub refuted-verdict : T (lowerAbove c d u n) ⊎ T (upperBelow c d u n) → verdictOf c d u n ≡ Refuted
-    unfolding refuted
-    refuted-verdict t = verdict-refuted c u n d (subst T p) (either (lowerAbove c d u n) (upperBelow c d u n) t)
+    refuted-verdict = verdicts.refuted-verdict (testsAt c d) u n p
 
     pub no-verdict : lowerAbove c d u n ≡ false → upperBelow c d u n ≡ false → verdictOf c d u n ≡ Undecided
-    unfolding refuted
-    no-verdict a b =
-        verdict-undecided c u n d (subst T p)
-        (λ t. ⊎-elim (subst T a) (subst T b) (either-part (lowerAbove c d u n) (upperBelow c d u n) t))
+    no-verdict = verdicts.no-verdict (testsAt c d) u n p
 
   -- ---- what decides is kept
 

@@ -12,7 +12,7 @@ use Rattle.enclosure.specs.Halving.{halve, turns}
 use Rattle.enclosure.specs.Enclosure.{foundLower, foundUpper}
 use Rattle.enclosure.proofs.Encloses.{circle}
 use Rattle.units.specs.Units.{belowZero, offRange}
-use Rattle.judge.specs.Verdict.{confirmed, refuted, verdictOf}
+use Rattle.judge.specs.Verdict.{confirmedBy, refutedBy, verdictBy}
 use Rattle.judge.specs.Judge.{judgeRule}
 use Rattle.judge.specs.Settle.{settledDepth, settleRule}
 use Rattle.distance.specs.Distance.{distanceRule}
@@ -37,7 +37,7 @@ list =
     and refl and refl and refl and refl and refl and refl and refl and refl and refl and refl and refl and tt
 
 beside : AllHold Holds others
-unfolding others l u evens odds rawLow rawHigh greatestLow leastHigh belowBy aboveBy halve turns foundLower foundUpper neg belowZero offRange ofBits verdictOf confirmed refuted judgeRule firstFrom settledDepth settleRule distanceRule littleEndian answerAt batchRule upTo answersAfter
+unfolding others l u evens odds rawLow rawHigh greatestLow leastHigh belowBy aboveBy halve turns foundLower foundUpper neg belowZero offRange ofBits verdictBy confirmedBy refutedBy judgeRule firstFrom settledDepth settleRule distanceRule littleEndian answerAt batchRule upTo answersAfter
 beside =
     (refl, refl) and (refl, refl) and (refl, refl) and (refl, refl) and (refl, refl) and (refl, refl)
     and (refl, refl) and (refl, refl) and (refl, refl) and (refl, refl) and (refl, refl) and (refl, refl) and (refl, refl) and (refl, refl)

@@ -6,7 +6,7 @@ use Rattle.series.specs.Bounds.{evens, odds, rawLow, rawHigh, greatestLow, leas
 use Rattle.series.specs.Entry.{boundsRule}
 use Rattle.units.specs.Units.{offRange}
 use Rattle.ends.specs.Ends.{belowBy, aboveBy}
-use Rattle.judge.specs.Verdict.{confirmed, refuted, verdictOf}
+use Rattle.judge.specs.Verdict.{confirmedBy, refutedBy, verdictBy}
 use Rattle.judge.specs.Judge.{judgeRule}
 use Rattle.step.specs.Step.{localAt}
 use Rattle.step.specs.Entry.{stepRule, judgedRule}
@@ -26,7 +26,7 @@ of-steps =
     and refl and refl and refl and refl and refl and refl and refl and refl and tt
 
 of-judged : AllHold Holds judgedRows
-unfolding judgedRows l u evens odds rawLow rawHigh greatestLow leastHigh belowBy aboveBy neg eq ofInt sub mul div ofBits offRange localAt verdictOf confirmed refuted judgeRule judgedRule
+unfolding judgedRows l u evens odds rawLow rawHigh greatestLow leastHigh belowBy aboveBy neg eq ofInt sub mul div ofBits offRange localAt verdictBy confirmedBy refutedBy judgeRule judgedRule
 of-judged =
     refl and refl and refl and refl and refl and refl and refl and refl and refl and refl and refl and refl and tt
 

@@ -201,7 +201,7 @@ refuted c h =
     rw (answer (c .given) (c .estimate) (passed c Refuted h))
     (⊎-elim (λ r. let w = r .within in let k = not-above c Refuted h (u .floor + c .n + 1) w (r .lower) in omega arith)
     (λ r. let w = r .within in let k = not-below c Refuted h (u .ceiling - (c .n + 1)) (omega arith) (r .upper) in omega arith)
-    (refuted-by (cellOf (c .given)) u (c .n) .0 (is-refuted (cellOf (c .given)) u (c .n) (c .depth) (answer-case c Refuted h))))
+    (refuted-by (cellOf (c .given)) u (c .n) (c .depth) .0 (is-refuted (cellOf (c .given)) u (c .n) (c .depth) (answer-case c Refuted h))))
 
 -- ---- all of it
 

@@ -12,19 +12,26 @@ use lib.Ieee.Positive.{den, den-pos}
 use Rattle.whole.specs.Round.{down, up}
 use Rattle.whole.proofs.Round.{down-le, lt-down, le-up, up-lt, down-le-up, up-whole, up-le-next}
 use Rattle.grid.specs.Grid.{T-units}
+use Rattle.grid.specs.Codes.{Code, bad-estimate}
 use Rattle.grid.proofs.FirstCode.{passed}
-use Rattle.units.specs.Units.{product, floorAndCeiling, estimate-check, codedEstimate}
-use Rattle.units.specs.Exact.{radian, Value, Rounded}
-use Rattle.units.specs.Limits.{UnitsIn}
+use Rattle.units.specs.Units.{product, floorAndCeiling, range-check, estimate-check, codedEstimate}
+use Rattle.units.specs.Exact.{radian, Value, RoundedUpTo, Rounded}
+use Rattle.units.specs.Limits.{UnitsUpTo, UnitsIn}
 use Rattle.units.specs.declared.CodedUnits.{CodedUnits}
 use Rattle.units.proofs.Range.{passed-in-range, floor-fits, ceiling-fits, product-value}
 use Rattle.units.proofs.Made.{estimates}
 
-pub estimate-fits : (x : Float) → estimate-check x .fails ≡ false → UnitsIn (floorAndCeiling x)
-estimate-fits x h = let r = passed-in-range T-units x h in record { floor = floor-fits r; ceiling = ceiling-fits r; next = up-le-next (product x) (den x) (den-pos x) }
+-- any number up to its limit
+pub range-fits : (x : Float) (limit : ℕ) (code : Code) → range-check x limit code .fails ≡ false → UnitsUpTo limit (floorAndCeiling x)
+range-fits x limit code h =
+    let r = passed-in-range limit x h in
+    record { floor = floor-fits r; ceiling = ceiling-fits r; next = up-le-next (product x) (den x) (den-pos x) }
 
-rounded : (a d : ℕ) → 0 < d → up a d ≤ T-units → Rounded a d (down a d) (up a d)
-rounded a d D h =
+pub estimate-fits : (x : Float) → estimate-check x .fails ≡ false → UnitsIn (floorAndCeiling x)
+estimate-fits x = range-fits x T-units bad-estimate
+
+rounded : (limit a d : ℕ) → 0 < d → up a d ≤ limit → RoundedUpTo limit a d (down a d) (up a d)
+rounded limit a d D h =
     let least = down-le a d in
     let above = le-up a d D in
     record {
@@ -38,9 +45,13 @@ rounded a d D h =
       limit = h;
     }
 
+pub range-rounded : (x : Float) (limit : ℕ) (code : Code) → range-check x limit code .fails ≡ false
+    → RoundedUpTo limit (product x) (den x) (floorAndCeiling x .floor) (floorAndCeiling x .ceiling)
+range-rounded x limit code h = rounded limit (product x) (den x) (den-pos x) (range-fits x limit code h .ceiling)
+
 pub passed-rounded : (x : Float) → estimate-check x .fails ≡ false
     → Rounded (product x) (den x) (floorAndCeiling x .floor) (floorAndCeiling x .ceiling)
-passed-rounded x h = rounded (product x) (den x) (den-pos x) (estimate-fits x h .ceiling)
+passed-rounded x = range-rounded x T-units bad-estimate
 
 -- ---- whatever is answered with code 0
 

@@ -25,8 +25,8 @@ InUnits nan p q = ⊥
 InUnits (inf s) p q = ⊥
 InUnits (fin s m exp) p q = (pos (down exp) *ℤ p) ≡ (pos (one * q) *ℤ signedBy (not s) (pos (m * up exp)))
 
--- R41: f and c are a / d rounded down and up; they are equal exactly where the quotient is whole, and neither is above T
-pub record Rounded (a d f c : ℕ) : Type 0 where
+-- R41: f and c are a / d rounded down and up; they are equal exactly where the quotient is whole, and neither is above the top
+pub record RoundedUpTo (top a d f c : ℕ) : Type 0 where
   pub floor-least : f * d ≤ a
   pub floor-most : a < (f + 1) * d
   pub ceiling-least : a ≤ c * d
@@ -34,4 +34,8 @@ pub record Rounded (a d f c : ℕ) : Type 0 where
   pub ordered : f ≤ c
   pub next : c ≤ f + 1
   pub exactly : c ≡ f ↔ a ≡ f * d
-  pub limit : c ≤ T-units
+  pub limit : c ≤ top
+
+-- R41: of an orbit's estimate, whose top is T
+abbrev pub Rounded : ℕ → ℕ → ℕ → ℕ → Type 0
+Rounded = RoundedUpTo T-units
