@@ -6,13 +6,15 @@ They are drawn for M from 0 up, and half of them are then mirrored. A few have
 an input outside its limit, or one whose sign opposes that of M. Problems are
 drawn by draw_grid, draw_doubles or draw_spent: that is the family of a case.
 Distances are drawn some to an orbit, whose enclosure serves them all. Steps
-are drawn by draw_steps, which has problems of its own.
+are drawn by draw_steps and flybys by draw_flyby, which have problems of their
+own.
 """
 from functools import partial
 
 import doubles
 import draw_doubles
 import draw_figures
+import draw_flyby
 import draw_grid
 import draw_spent
 import draw_steps
@@ -21,6 +23,7 @@ import records
 import rules
 import wire
 from cells import pose
+from draw_claims import rooted_claim, turning_claim
 from draws import small
 from limits import DEPTHS, H, T, TOLERANCE
 
@@ -77,27 +80,9 @@ def proposal_case(rng, family):
     return wire.propose(family.spoil(rng, orbit(rng, family)))
 
 
-def turning_claim(rng, family, d):
-    """A problem, an estimate in units and N, with the estimate about N from
-    an angle at which an end test turns at depth d."""
-    x, given = family.turning(rng, d)
-    n = draws.tolerance(rng)
-    off = rng.choice((-n - 1, -n, n, n + 1, 0)) + rng.choice((-1, 0, 1))
-    return given, x + off, n
-
-
-def rooted_claim(rng, family):
-    """The like with the estimate about N from the root: how much more or less
-    it is says which depth can tell."""
-    x, given = family.turning(rng, DEPTHS[-1])
-    far = small(rng, 17)
-    n = far + rng.choice((1, -1)) * small(rng, rng.choice((8, 16)))
-    return given, x + rng.choice((1, -1)) * far, min(max(n, 0), TOLERANCE)
-
-
 def limit_claim(rng, family):
-    """The like with N reaching from the estimate to 0 or T, whichever M is
-    nearer to, or ending beside it."""
+    """The like of draw_claims with N reaching from the estimate to 0 or T,
+    whichever M is nearer to, or ending beside it."""
     given, n = family.anywhere(rng), draws.tolerance(rng)
     m, _, scale = given.own()
     limit = n if 2 * m < H * scale else T - n
@@ -116,7 +101,7 @@ def signed(rng, given, units):
 def claim(rng, family):
     """A problem, estimate, N and depth."""
     d = draws.depth(rng)
-    given, units, n = turning_claim(rng, family, d)
+    given, units, n = turning_claim(rng, family.turning, d)
     return *signed(rng, given, units), n, d
 
 
@@ -133,9 +118,9 @@ def any_claim(rng, family):
     if way == 0:
         given, units, n = limit_claim(rng, family)
     elif way < 3:
-        given, units, n = rooted_claim(rng, family)
+        given, units, n = rooted_claim(rng, family.turning)
     else:
-        given, units, n = turning_claim(rng, family, draws.depth(rng))
+        given, units, n = turning_claim(rng, family.turning, draws.depth(rng))
     return *signed(rng, given, units), n
 
 
@@ -255,6 +240,10 @@ KINDS = {
                              angle=draw_spent.cosine_angle), 20_000, 10_000),
     "steps": (draw_steps.step_case, 130_000, 10_000),
     "step walks": (draw_steps.walk_cases, 180_000, 10_000),
+    "flyby sinh": (draw_flyby.sinh_case, 30_000, 10_000),
+    "flyby ends": (draw_flyby.end_case, 80_000, 10_000),
+    "flyby enclosures": (draw_flyby.enclosure_case, 30_000, 2_000),
+    "flyby verdicts": (draw_flyby.verdict_case, 120_000, 10_000),
 }
 # The kinds that are drawn by orbits, and how many cases each of these has.
 BY_ORBIT = {"distances": PER_ORBIT, "double distances": PER_ORBIT,

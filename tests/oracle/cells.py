@@ -8,7 +8,7 @@ from typing import NamedTuple
 
 import doubles
 from given import Grid
-from limits import DEPTHS, H, ONE, T
+from limits import DEPTHS, H, ONE, T, TOLERANCE
 
 
 class Cell(NamedTuple):
@@ -104,6 +104,11 @@ def depth_code(depth):
 def estimate_code(units):
     """R5, code 4: of f and c, or None."""
     return 4 if units is None else 0
+
+
+def tolerance_code(n):
+    """R5, code 5."""
+    return 5 if n > TOLERANCE else 0
 
 
 def angle_code(x):

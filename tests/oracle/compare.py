@@ -7,9 +7,10 @@ command that runs driver.c linked with the library. Any difference is printed
 with its case, and the exit status is then 1. So it is where too few of the
 random cases or of the exact facts had a negative M, too few pairs of M and e
 as doubles were drawn for either, too few random cases were of cosine or
-different steps, too few facts were of spent terms, of settled claims, of one
-of the figures, of distances, of cosine or of steps, or too few random claims
-were settled, estimates measured or steps made with one of the answers.
+different steps or flybys, too few facts were of spent terms, of settled
+claims, of one of the figures, of distances, of cosine, of steps or of flybys,
+or too few random claims were settled, estimates measured, steps made or
+entries of flybys called with one of the answers.
 """
 import random
 import sys
@@ -23,6 +24,7 @@ import cosine
 import edges
 import facts
 import figures
+import flyby
 import records
 import report
 import rules
@@ -50,6 +52,11 @@ RULES = {
     wire.STEP: lambda c: steps.step(c.given, c.bits, c.method),
     wire.STEP_JUDGED: lambda c: steps.step_judged(c.given, c.bits, c.method,
                                                   c.n, c.depth),
+    wire.FLYBY_SINH: lambda c: flyby.sinh(c.x),
+    wire.FLYBY_LOWER_END: lambda c: flyby.lower_end(c.x, c.given),
+    wire.FLYBY_UPPER_END: lambda c: flyby.upper_end(c.x, c.given),
+    wire.FLYBY_ENCLOSE: lambda c: flyby.enclose(c.given),
+    wire.FLYBY_JUDGE: lambda c: flyby.judge(c.given, c.bits, c.n),
     wire.FIGURES: lambda c: figures.figures(c.given.a),
     wire.BATCH: lambda c: (*records.judge_claims(
         c.claims, c.answers, c.answers_len), c.claims),

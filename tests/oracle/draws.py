@@ -34,9 +34,9 @@ def tolerance(rng):
     return rng.choice((0, 1, small(rng, 16), rng.randrange(TOLERANCE + 1)))
 
 
-def spoil(rng, value, limit, *others):
+def spoil(rng, value, limit, *others, once_in=400):
     """Now and then a value beyond its limit, or one of the others."""
-    if rng.randrange(400):
+    if rng.randrange(once_in):
         return value
     return rng.choice((limit + 1, limit + 1 + small(rng, 24),
                        2 ** 32 - 1 - small(rng, 24), *others))
@@ -76,9 +76,10 @@ def turned(rng, m):
     return m
 
 
-def estimate(rng, units):
-    """Bits of an estimate near the given units, on the grid or off it."""
-    units = min(max(units, 0), T)
+def estimate(rng, units, limit=T):
+    """Bits of an estimate near the given units, on the grid or off it; at the
+    limit it may be some part of a unit beyond."""
+    units = min(max(units, 0), limit)
     places = rng.choice((0, 0, 1, 5, 22))
     part = rng.getrandbits(places)
     kind = rng.randrange(300)

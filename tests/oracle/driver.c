@@ -10,6 +10,7 @@
 #include <stdlib.h>
 #include <string.h>
 
+#include "replies.h"
 #include "stripeawn.h"
 
 enum entry {
@@ -24,6 +25,11 @@ enum entry {
     COSINE,
     STEP,
     STEP_JUDGED,
+    FLYBY_SINH,
+    FLYBY_LOWER_END,
+    FLYBY_UPPER_END,
+    FLYBY_ENCLOSE,
+    FLYBY_JUDGE,
     FIGURES,
     BATCH,
     LOWER_END_DOUBLE,
@@ -38,14 +44,11 @@ enum entry {
 struct request {
     uint32_t entry;
     int32_t x, m; /* x of sine and cosine: the 32 bits of an unsigned
-                     number, as is a step's method, which stands there */
-    uint32_t a, n, depth;
+                     number, as is a step's method, which stands there,
+                     and as are x and m of a flyby */
+    uint32_t a, n, depth;    /* a is also a flyby's b */
     uint64_t bits;           /* of the estimate */
     uint64_t m_bits, e_bits; /* of M and e as doubles */
-};
-
-struct reply {
-    int64_t code, first, second, third, fourth;
 };
 
 static void fail(const char *why)
@@ -81,84 +84,6 @@ static double double_of(uint64_t bits)
 
     memcpy(&value, &bits, sizeof value);
     return value;
-}
-
-static int64_t bits_of(double value)
-{
-    int64_t bits;
-
-    memcpy(&bits, &value, sizeof bits);
-    return bits;
-}
-
-static struct reply of_bounds(struct stripeawn_bounds s)
-{
-    struct reply reply = { s.code, s.lo, s.hi, 0, 0 };
-
-    return reply;
-}
-
-static struct reply of_end(struct stripeawn_end s)
-{
-    struct reply reply = { s.code, s.accepted, 0, 0, 0 };
-
-    return reply;
-}
-
-static struct reply of_enclosure(struct stripeawn_enclosure s)
-{
-    struct reply reply = { s.code, s.lower, s.upper, 0, 0 };
-
-    return reply;
-}
-
-static struct reply of_proposal(struct stripeawn_proposal s)
-{
-    struct reply reply = { s.code, s.angle, s.e_sin, s.e_cos, s.j };
-
-    return reply;
-}
-
-static struct reply of_verdict(struct stripeawn_verdict s)
-{
-    struct reply reply = { s.code, s.verdict, 0, 0, 0 };
-
-    return reply;
-}
-
-static struct reply of_settled(struct stripeawn_settled s)
-{
-    struct reply reply = { s.code, s.verdict, s.depth, 0, 0 };
-
-    return reply;
-}
-
-static struct reply of_off(struct stripeawn_off s)
-{
-    struct reply reply = { s.code, s.least, s.most, 0, 0 };
-
-    return reply;
-}
-
-static struct reply of_stepped(struct stripeawn_stepped s)
-{
-    struct reply reply = { s.code, s.step, bits_of(s.estimate), 0, 0 };
-
-    return reply;
-}
-
-static struct reply of_judged_step(struct stripeawn_judged_step s)
-{
-    struct reply reply = { s.code, s.step, bits_of(s.estimate), s.verdict, 0 };
-
-    return reply;
-}
-
-static struct reply of_figures(uint64_t width, uint32_t n)
-{
-    struct reply reply = { 0, (int64_t)width, n, 0, 0 };
-
-    return reply;
 }
 
 /* a is the length of the claims, n that of the answers, depth their room. */
@@ -219,6 +144,25 @@ static struct reply ask_step(const struct request *r)
                                                 r->n, r->depth));
 }
 
+static struct reply ask_flyby(const struct request *r)
+{
+    uint32_t x = (uint32_t)r->x, m = (uint32_t)r->m, b = r->a;
+
+    switch (r->entry) {
+    case FLYBY_SINH:
+        return of_bounds(stripeawn_flyby_sinh(x));
+    case FLYBY_LOWER_END:
+        return of_end(stripeawn_flyby_lower_end(x, m, b));
+    case FLYBY_UPPER_END:
+        return of_end(stripeawn_flyby_upper_end(x, m, b));
+    case FLYBY_ENCLOSE:
+        return of_enclosure(stripeawn_flyby_enclose(m, b));
+    default:
+        return of_verdict(
+            stripeawn_flyby_judge(m, b, double_of(r->bits), r->n));
+    }
+}
+
 static struct reply ask(const struct request *r)
 {
     switch (r->entry) {
@@ -245,6 +189,12 @@ static struct reply ask(const struct request *r)
             stripeawn_settle(r->m, r->a, double_of(r->bits), r->n));
     case DISTANCE:
         return of_off(stripeawn_distance(r->m, r->a, double_of(r->bits)));
+    case FLYBY_SINH:
+    case FLYBY_LOWER_END:
+    case FLYBY_UPPER_END:
+    case FLYBY_ENCLOSE:
+    case FLYBY_JUDGE:
+        return ask_flyby(r);
     case FIGURES:
         return of_figures(stripeawn_greatest_width(r->a),
                           stripeawn_least_n(r->a));

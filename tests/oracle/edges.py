@@ -5,7 +5,8 @@ What is given is of the grid or doubles, and the cases beside it are alike.
 Those where sine's terms are spent are in spent.py, in settle.py those where
 a claim that is settled without a depth is about to turn, in distance.py those
 of estimates beside the ends of an enclosure, in figures.py those of the
-figures, and in step_edges.py most of those of steps.
+figures, in step_edges.py most of those of steps, and in flyby_edges.py those
+of flybys.
 """
 from functools import partial
 from itertools import product
@@ -14,6 +15,7 @@ import cosine_facts
 import distance
 import doubles
 import figures
+import flyby_edges
 import records
 import settle
 import spent
@@ -209,4 +211,10 @@ KINDS = {
     "steps of few units": step_edges.few_units,
     "steps of least doubles": step_edges.least_doubles,
     "steps' ends": step_edges.ends,
+    "flyby sinh": flyby_edges.sinhs,
+    "flyby ends": flyby_edges.ends,
+    "flyby enclosures": flyby_edges.enclosures,
+    "flyby verdicts": flyby_edges.verdicts,
+    "flybys at turns": flyby_edges.turns,
+    "flybys at limits": flyby_edges.limits,
 }

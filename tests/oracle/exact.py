@@ -1,8 +1,9 @@
 """The exact Taylor sums of sine, and the inequalities that an end must meet.
 
-R8, R14, R19, R20, of angles of either sign. Inequalities are multiplied out,
-so that they compare whole numbers of any size. An Exact of given.py has the M
-and the A of an inequality.
+R8, R14, R19, R20, of angles of either sign. Each term of sine has the other
+sign than the one before; with sign 1 all have the same, and the sums are those
+of sinh, R83. Inequalities are multiplied out, so that they compare whole
+numbers of any size. An Exact of given.py has the M and the A of an inequality.
 """
 from fractions import Fraction
 from functools import lru_cache
@@ -10,28 +11,28 @@ from functools import lru_cache
 from limits import UNIT
 
 
-def sums_by_terms(x, last):
+def sums_by_terms(x, last, sign=-1):
     """R8: 2^28 S_n(X) for n from 0 to the last, term by term."""
     point = Fraction(x, UNIT)
     term = total = point
     found = [UNIT * total]
     for k in range(1, last + 1):
-        term = term * point * point / (2 * k * (2 * k + 1))
-        total += term if k % 2 == 0 else -term
+        term = sign * term * point * point / (2 * k * (2 * k + 1))
+        total += term
         found.append(UNIT * total)
     return found
 
 
 @lru_cache(maxsize=20_000)
-def scaled_sum(x, n, parts=1):
+def scaled_sum(x, n, parts=1, sign=-1):
     """The same number as numerator and denominator, worked out from the last
     term inwards without shortening the fraction, which is much faster. X and
     the sum are in so many parts of a unit."""
-    square, radian = x * x, (UNIT * parts) ** 2
+    square, radian = sign * x * x, (UNIT * parts) ** 2
     numerator, denominator = 1, 1
     for k in range(n, 0, -1):
         whole = denominator * (2 * k * (2 * k + 1)) * radian
-        numerator, denominator = whole - square * numerator, whole
+        numerator, denominator = whole + square * numerator, whole
     return x * numerator, denominator
 
 

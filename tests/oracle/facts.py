@@ -9,6 +9,7 @@ import draw_doubles
 import draw_grid
 import draw_spent
 import figures
+import flyby_facts
 import mirrors
 import settle
 import spent
@@ -35,6 +36,9 @@ DISTANCE_KINDS = ("distances", "double distances", "spent distances")
 COSINE_KINDS = ("cosine sums", "cosines", "spent cosines")
 STEPS, OPERATIONS = "steps", "operations"
 STEP_KINDS = (STEPS, "step zeros", "step mirrors")
+# Those of flybys, R81 to R89.
+FLYBY_KINDS = ("flyby sums", "flyby sinhs", "flyby ends", "flyby enclosures",
+               "flyby verdicts")
 # Those of the figures: R63, whose facts each have a width beside them, R64 and
 # R65.
 WIDTHS, INSIDE, FAR = "widths", "inside estimates", "far estimates"
@@ -85,6 +89,11 @@ KINDS = {
     STEPS: (step_facts.taken_steps, 12_000, 2_000),
     "step zeros": (step_facts.zeros, 8_000, 4_000),
     "step mirrors": (round_of(mirrors.STEP_ROUND), 10_000, 5_000),
+    "flyby sums": (flyby_facts.sums, 400, 400),
+    "flyby sinhs": (flyby_facts.sinhs, 10_000, 5_000),
+    "flyby ends": (flyby_facts.ends, 12_000, 2_000),
+    "flyby enclosures": (flyby_facts.enclosures, 20_000, 2_000),
+    "flyby verdicts": (flyby_facts.verdicts, 24_000, 2_000),
     "rises": (figures.rises, 4_000, 2_000),
     "refusals": (figures.refusals, 4_000, 2_000),
 }

@@ -18,7 +18,7 @@ import wire
 from cells import up
 from draw_figures import jump
 from limits import ONE, T, TOLERANCE
-from rules import CONFIRMED, REFUTED
+from rules import CONFIRMED, REFUTED, last
 
 DEPTH = 5
 # No A below 2^28 allows a width of that many units.
@@ -40,18 +40,6 @@ def suffices(n, a):
 def least_gap(a):
     """R65: the least g with g (2^28 - A) >= 32 A."""
     return up(32 * a, ONE - a)
-
-
-def last(holds, low, high):
-    """The last number for which it holds: it does so from low on up to there,
-    and not at high."""
-    while high - low > 1:
-        middle = (low + high) // 2
-        if holds(middle):
-            low = middle
-        else:
-            high = middle
-    return low
 
 
 def greatest_width(a):

@@ -1,4 +1,5 @@
-"""What is given of M and e: whole units of the grid, or two doubles, R1, R60.
+"""What is given of M and e: whole units of the grid, or two doubles, R1, R60;
+or M and B of a flyby, R81.
 
 The rules round what is given by themselves (cells.py). Here are its mirror
 and, for the facts, its exact values and the corners of its cell.
@@ -80,6 +81,19 @@ class Doubles(NamedTuple):
     def __str__(self):
         m, e = map(doubles.to_float, self)
         return f"m={m!r} e={e!r} ({self.m:016x} {self.e:016x})"
+
+
+class Flyby(NamedTuple):
+    """M and B in whole units, neither of them signed."""
+    m: int
+    b: int
+
+    @property
+    def negative(self):
+        return False
+
+    def __str__(self):
+        return f"M={self.m} B={self.b}"
 
 
 @lru_cache(maxsize=20_000)

@@ -39,6 +39,11 @@ COSINE_FACTS_LEAST = 100_000
 STEP_FACTS_LEAST = 100_000
 STEP_ROOTS_LEAST = 5_000
 OPERATIONS_LEAST = 20_000
+# Random cases of flybys that each run has to have, exact facts, and of these
+# so many that were held against the true root.
+FLYBY_CASES_LEAST = 100_000
+FLYBY_FACTS_LEAST = 100_000
+FLYBY_ROOTS_LEAST = 50_000
 # Random cases of an entry that have to have each of its answers, and distances
 # that have to be held against each answer of a settled claim, R70.
 ANSWER_LEAST = 200
@@ -50,25 +55,49 @@ def settled_words(verdict, depth):
 
 STEP_WORDS = ("Newton", "Halley", "Newton to zero", "Halley to zero",
               "flat by its divisor", "flat below 0", "flat above T")
-REFUSED_STEPS = ("with code 4", "with code 21")
+END_WORDS = ("not accepted", "accepted")
+
+
+def with_codes(*codes):
+    return [f"with code {code}" for code in codes]
+
+
 ANSWERS = {
     **dict.fromkeys(settle.ENTRIES, [settled_words(*answer)
                                      for answer in settle.ANSWERS]),
     **dict.fromkeys(distance.ENTRIES, [
         "with least 0", "with least above 0", "with code 4"]),
-    "step": [*STEP_WORDS, *REFUSED_STEPS],
+    "step": [*STEP_WORDS, *with_codes(4, 21)],
     "step_judged": [*(f"{name} {word}" for name in steps.NAMES.values()
                       for word in rules.WORDS.values()),
-                    "flat", *REFUSED_STEPS],
+                    "flat", *with_codes(4, 21)],
+    "flyby_sinh": with_codes(0, 10),
+    **dict.fromkeys(("flyby_lower_end", "flyby_upper_end"),
+                    [*END_WORDS, *with_codes(1, 2, 10)]),
+    "flyby_enclose": with_codes(0, 1, 2, 15),
+    "flyby_judge": [*rules.WORDS.values(), *with_codes(1, 2, 4, 5)],
 }
 
 
+def flyby_words(entry, first):
+    """With code 0, which of sinh and of an enclosure is all that is
+    counted."""
+    if entry == wire.FLYBY_JUDGE:
+        return rules.WORDS[first]
+    if entry in (wire.FLYBY_LOWER_END, wire.FLYBY_UPPER_END):
+        return END_WORDS[first]
+    return with_codes(0)[0]
+
+
 def in_words(call, answer):
-    """An answer as it is counted, of a settled claim, a distance or a
-    step."""
-    code, first, second, *verdict = answer
+    """An answer as it is counted, of a settled claim, a distance, a step or a
+    flyby."""
+    code, first, *others = answer
     if code:
-        return f"with code {code}"
+        return with_codes(code)[0]
+    if call.entry in wire.FLYBYS:
+        return flyby_words(call.entry, first)
+    second, *verdict = others
     if call.entry == wire.SETTLE:
         return settled_words(first, second)
     if call.entry == wire.STEP:
@@ -149,6 +178,18 @@ def step_counts(totals):
            STEP_ROOTS_LEAST)
 
 
+def flyby_counts(totals):
+    """How much there was of flybys, likewise."""
+    drawn, exact = totals["random"], totals["exact"]
+    yield ("random", "cases", sum(drawn.counts[wire.NAMES[entry]]
+                                  for entry in wire.FLYBYS), FLYBY_CASES_LEAST)
+    yield ("exact", "facts", facts_of(totals, facts.FLYBY_KINDS),
+           FLYBY_FACTS_LEAST)
+    yield ("exact", "facts held against the root",
+           sum(exact.rooted[kind] for kind in facts.FLYBY_KINDS),
+           FLYBY_ROOTS_LEAST)
+
+
 def too_few(totals):
     """A sentence for each group that had too few of a kind."""
     wanted = [(group, *rest) for group in ("random", "exact") for rest in (
@@ -162,6 +203,8 @@ def too_few(totals):
                for counted in figure_counts(totals)]
     wanted += [("exact", *counted) for counted in held_counts(totals)]
     wanted += step_counts(totals)
+    wanted += [(group, f"{what} of flybys", *counted) for group, what, *counted
+               in flyby_counts(totals)]
     wanted += [("random", f"{name} {words}",
                 totals["random"].answers[name, words], ANSWER_LEAST)
                for name, every in ANSWERS.items() for words in every]
@@ -195,6 +238,12 @@ def report_steps(totals):
     print(f"compare: of cosine and steps: {', '.join(parts)}")
 
 
+def report_flybys(totals):
+    parts = (f"{count:,} {group} {what}"
+             for group, what, count, _ in flyby_counts(totals))
+    print(f"compare: of flybys: {', '.join(parts)}")
+
+
 def report(totals, faults, seconds):
     random_found, edge, exact = (totals[group] for group in
                                  ("random", "edge", "exact"))
@@ -214,6 +263,7 @@ def report(totals, faults, seconds):
     report_figures(totals)
     report_held(totals)
     report_steps(totals)
+    report_flybys(totals)
     for sentence in faults[:SHOWN]:
         print(f"compare: DIFFERENT: {sentence}")
     if len(faults) > SHOWN:

@@ -5,14 +5,14 @@ point. How M and e become a cell is in cells.py. The comment of a function
 begins with the number of the rule that it follows.
 """
 from fractions import Fraction
-from functools import lru_cache
+from functools import lru_cache, partial
 from itertools import accumulate
 from math import floor
 from operator import sub
 
 from cells import (angle_code, depth_code, estimate_code, estimate_units,
-                   mirror, pose, up)
-from limits import DEPTHS, T, TOLERANCE, UNIT
+                   mirror, pose, tolerance_code, up)
+from limits import DEPTHS, T, UNIT
 
 # R45
 CONFIRMED, REFUTED, UNDECIDED = 16, 17, 18
@@ -117,30 +117,38 @@ def upper_end(x, given, depth):
 
 # ---- Enclosure -------------------------------------------------------------
 
-def search_lower(cell, depth):
-    """R25, R26: p stays accepted, and q not."""
-    p, q = 0, T
+def last(holds, p, q):
+    """R25: a number p for which it holds, where it does not for the next: it
+    holds for p as given, and not for q, and stays so."""
     while q - p > 1:
         middle = (p + q) // 2
-        if accepts_lower(middle, cell, depth):
+        if holds(middle):
             p = middle
         else:
             q = middle
     return p
 
 
-def search_upper(cell, depth):
-    """R25, R27: q stays accepted, and p not."""
-    if accepts_upper(0, cell, depth):
+def last_lower(accepts, limit):
+    """R26: p stays accepted, and q not."""
+    return last(accepts, 0, limit)
+
+
+def first_upper(accepts, limit):
+    """R27: q stays accepted, and p not."""
+    if accepts(0):
         return 0
-    p, q = 0, T
-    while q - p > 1:
-        middle = (p + q) // 2
-        if accepts_upper(middle, cell, depth):
-            q = middle
-        else:
-            p = middle
-    return q
+    return 1 + last(lambda x: not accepts(x), 0, limit)
+
+
+def search_lower(cell, depth):
+    """R26."""
+    return last_lower(partial(accepts_lower, cell=cell, depth=depth), T)
+
+
+def search_upper(cell, depth):
+    """R27."""
+    return first_upper(partial(accepts_upper, cell=cell, depth=depth), T)
 
 
 @lru_cache(maxsize=20_000)
@@ -229,32 +237,28 @@ def propose(given):
 
 # ---- Judging a double ------------------------------------------------------
 
-def is_confirmed(cell, f, c, n, depth):
-    """R42, R43."""
-    return (accepts_lower(max(c - n, 0), cell, depth)
-            and accepts_upper(min(f + n, T), cell, depth))
-
-
-def is_refuted(cell, f, c, n, depth):
-    """R44: either end will do."""
-    return ((f + n + 1 <= T and accepts_lower(f + n + 1, cell, depth))
-            or (c - n - 1 >= 0 and accepts_upper(c - n - 1, cell, depth)))
+def verdict_on(f, c, n, limit, lower, upper):
+    """R42 to R45: by the two tests of ends, up to the limit of angles. To
+    refute either end will do."""
+    if lower(max(c - n, 0)) and upper(min(f + n, limit)):
+        return CONFIRMED
+    if ((f + n + 1 <= limit and lower(f + n + 1))
+            or (c - n - 1 >= 0 and upper(c - n - 1))):
+        return REFUTED
+    return UNDECIDED
 
 
 def judge(given, bits, n, depth):
     """R41, R45, R48, R59."""
     code, mirrored, cell = pose(given)
     units = estimate_units(bits, mirrored)
-    code = code or depth_code(depth) or estimate_code(units)
-    if not code and n > TOLERANCE:
-        code = 5
+    code = (code or depth_code(depth) or estimate_code(units)
+            or tolerance_code(n))
     if code:
         return code, 0
-    if is_confirmed(cell, *units, n, depth):
-        return 0, CONFIRMED
-    if is_refuted(cell, *units, n, depth):
-        return 0, REFUTED
-    return 0, UNDECIDED
+    tests = (partial(accepts, cell=cell, depth=depth)
+             for accepts in (accepts_lower, accepts_upper))
+    return 0, verdict_on(*units, n, T, *tests)
 
 
 def settle(given, bits, n):

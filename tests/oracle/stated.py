@@ -3,13 +3,14 @@
 They hold both programs: the rules of this folder and the library. What is
 stated of an M above 0 is stated of -M too, as its mirror; and what is stated
 of the grid also of the same numbers as doubles, but for steps, which have no
-entry of doubles.
+entry of doubles. Flybys have neither.
 """
 import doubles
 import stated_cosine
 import stated_distance
 import stated_doubles
 import stated_figures
+import stated_flyby
 import stated_settle
 import stated_spent
 import stated_step
@@ -148,4 +149,5 @@ def stated():
     return (sines + stated_spent.sines() + stated_figures.figures() + batches
             + grid + as_doubles(grid) + stated_doubles.stated()
             + stated_settle.off_grid() + stated_distance.off_grid()
-            + stated_cosine.cosines() + stated_step.stated())
+            + stated_cosine.cosines() + stated_step.stated()
+            + stated_flyby.stated())

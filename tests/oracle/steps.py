@@ -11,9 +11,9 @@ import cosine
 import rules
 from binary64 import divide, multiply, subtract
 from cells import (depth_code, estimate_code, estimate_units,
-                   floor_and_ceiling, mirror_double, pose)
+                   floor_and_ceiling, mirror_double, pose, tolerance_code)
 from doubles import bits_of, is_negative, is_zero
-from limits import DEPTHS, T, TOLERANCE
+from limits import DEPTHS, T
 
 # R77
 NEWTON, HALLEY, FLAT = 1, 2, 3
@@ -98,7 +98,7 @@ def step_judged(given, bits, method, n, depth):
     """R79, R6: of the step's code, that of the depth and that of N the first
     in order. The step's own is the first of its codes."""
     code, number, new = step(given, bits, method)
-    found = {code, depth_code(depth), 5 if n > TOLERANCE else 0}
+    found = {code, depth_code(depth), tolerance_code(n)}
     code = next((each for each in CODES if each in found), 0)
     if code:
         return code, 0, 0, 0

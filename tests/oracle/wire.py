@@ -3,30 +3,36 @@ import struct
 import subprocess
 from typing import NamedTuple
 
-from given import Doubles, Grid
+from given import Doubles, Flyby, Grid
 
 # The driver's order. Behind these come the entries of doubles in the same
 # order, each BATCH further on than its entry of the grid; sine, cosine, the
-# steps and the figures have none. The figures are the header's two functions
-# of A, in one reply.
+# steps, the flybys and the figures have none. The figures are the header's two
+# functions of A, in one reply.
 (SINE, LOWER_END, UPPER_END, ENCLOSE, PROPOSE, JUDGE, SETTLE, DISTANCE,
- COSINE, STEP, STEP_JUDGED, FIGURES, BATCH) = range(13)
+ COSINE, STEP, STEP_JUDGED, FLYBY_SINH, FLYBY_LOWER_END, FLYBY_UPPER_END,
+ FLYBY_ENCLOSE, FLYBY_JUDGE, FIGURES, BATCH) = range(18)
 NAMES = ("sine", "lower_end", "upper_end", "enclose", "propose", "judge",
-         "settle", "distance", "cosine", "step", "step_judged", "figures",
-         "judge_claims")
+         "settle", "distance", "cosine", "step", "step_judged", "flyby_sinh",
+         "flyby_lower_end", "flyby_upper_end", "flyby_enclose", "flyby_judge",
+         "figures", "judge_claims")
 SERIES = (SINE, COSINE)
 STEPS = (STEP, STEP_JUDGED)
+FLYBYS = (FLYBY_SINH, FLYBY_LOWER_END, FLYBY_UPPER_END, FLYBY_ENCLOSE,
+          FLYBY_JUDGE)
 
 # M and X are signed, but for the X of sine and cosine. The method of a step,
-# which is not signed either, stands in the place of X.
+# which is not signed either, stands in the place of X. Of a flyby nothing is
+# signed, and its B stands in the place of A.
 REQUEST = struct.Struct("<I2i3I3Q")
 UNSIGNED_REQUEST = struct.Struct("<2Ii3I3Q")
+FLYBY_REQUEST = struct.Struct("<6I3Q")
 REPLY = struct.Struct("<5q")
 
 
 class Call(NamedTuple):
-    """A call with numbers, and what is given of M and e, Grid or Doubles;
-    what an entry does not take stays 0."""
+    """A call with numbers, and what is given of M and e, Grid, Doubles or
+    Flyby; what an entry does not take stays 0."""
     entry: int
     given: object = Grid(0, 0)
     x: int = 0
@@ -90,6 +96,26 @@ def step_judged(given, bits, method, n, depth):
     return Call(STEP_JUDGED, given, 0, n, depth, bits, method)
 
 
+def flyby_sinh(x):
+    return Call(FLYBY_SINH, Flyby(0, 0), x)
+
+
+def flyby_lower(x, given):
+    return Call(FLYBY_LOWER_END, given, x)
+
+
+def flyby_upper(x, given):
+    return Call(FLYBY_UPPER_END, given, x)
+
+
+def flyby_enclose(given):
+    return Call(FLYBY_ENCLOSE, given)
+
+
+def flyby_judge(given, bits, n):
+    return Call(FLYBY_JUDGE, given, n=n, bits=bits)
+
+
 def figures(a):
     return Call(FIGURES, Grid(0, a))
 
@@ -108,6 +134,9 @@ def encode(call):
     if entry in STEPS:
         return UNSIGNED_REQUEST.pack(entry, call.method, *given, call.n,
                                      call.depth, call.bits, 0, 0)
+    if entry in FLYBYS:
+        return FLYBY_REQUEST.pack(entry, call.x, *given, call.n, 0, call.bits,
+                                  0, 0)
     if entry == BATCH:
         head = REQUEST.pack(BATCH, 0, 0, len(call.claims), call.answers_len,
                             len(call.answers), 0, 0, 0)
