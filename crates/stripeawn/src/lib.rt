@@ -14,6 +14,7 @@ ghost use Rattle.step.specs.Entry.{stepRule, judgedRule};
 ghost use Rattle.sinh.specs.Entry.{sinhRule};
 ghost use Rattle.flyby.specs.Entry as flyby_ends;
 ghost use Rattle.flyby_enclosure.specs.Enclosure as flyby_enclosure;
+ghost use Rattle.flyby_judge.specs.Judge as flyby_judge;
 ghost use Rattle.claims.specs.Form.{twenty};
 ghost use Rattle.claims.specs.Batch.{batchRule, answersAfter};
 use claims::Batch;
@@ -192,6 +193,13 @@ pub extern "C" fn stripeawn_flyby_enclose(m: u32, b: u32) -> Enclosure
     ensures { λ r. ⌜ r ≡ flyby_enclosure.enclosureRule m b ⌝ }
 {
     flyby_enclosure::enclose(m, b)
+}
+
+#[no_mangle]
+pub extern "C" fn stripeawn_flyby_judge(m: u32, b: u32, estimate: f64, n: u32) -> Judged
+    ensures { λ r. ⌜ r ≡ flyby_judge.judgeRule (flyby_judge.claimOf m b estimate n) ⌝ }
+{
+    flyby_judge::judge(m, b, estimate, n)
 }
 
 #[no_mangle]
