@@ -1,9 +1,8 @@
 -- What an end test entry's answer says of the test, for either end and either sign of M. Assumes nothing.
-use mathlib.Core.Path.{_≡_, refl, sym, ap, subst, _∙_}
+use mathlib.Core.Path.{_≡_, sym, ap, subst, _∙_}
 use mathlib.Core.Bool.{Bool, true, false, not}
 use mathlib.Core.List.{[], _∷_}
 use Prim.Native.Nat.{ℕ, _≤_}
-use native.Mathlib.Omega.{arith}
 use lib.Dec.{T, T-not}
 use lib.IntN.{ℤ, pos, natAbs}
 use Rattle.whole.proofs.Bools as test
@@ -15,18 +14,11 @@ use Rattle.orbit.specs.Mirror.{mirror, mirrorEnd}
 use Rattle.orbit.specs.Given.{Given, grid, mirroredOf, cellOf, problemChecks, problemAt, ProblemIn}
 use Rattle.orbit.proofs.Posed.{problem-in}
 use Rattle.ends.specs.Ends.{endAt}
-use Rattle.ends.specs.Entry.{flagged, endOf, endRule}
+use Rattle.ends.specs.Entry.{flagged, endChecks, endOf, endRule}
 use Rattle.ends.specs.Exact.{EndExact, EndSpare}
-use Rattle.ends.specs.declared.End.{End}
-use Rattle.ends.proofs.Answered.{flag-done, ends}
+use Rattle.ends.proofs.Answered.{flag-given, flag-known, ends}
 use Rattle.ends.proofs.Mirror.{twice, end-true, spare-accepted}
 use Rattle.promises.proofs.Mirror.{Side, side-of, check-side, side-checks}
-
-is-test : (s t : Bool) → flagged s ≡ flagged t → s ≡ t
-is-test true true e = refl
-is-test true false e = let f = ap (λ (r : End). r .accepted) e in absurd (let z : ⊥ = omega arith in z)
-is-test false true e = let f = ap (λ (r : End). r .accepted) e in absurd (let z : ⊥ = omega arith in z)
-is-test false false e = refl
 
 -- an answer of code 0: the problem's checks passed, and X is the mirror of an angle in range
 pub record Posed (X : ℤ) (g : Given) (d : ℕ) : Type 0 where
@@ -34,23 +26,19 @@ pub record Posed (X : ℤ) (g : Given) (d : ℕ) : Type 0 where
   pub problem : ProblemIn (problemAt (cellOf g) d)
   pub side : Side (mirroredOf g) X
 
-posed : (upper : Bool) (X : ℤ) (g : Given) (d : ℕ) → endRule upper X g d .code ≡ 0 → Posed X g d
-posed upper X g d z =
-    let (p, q) = split (problemChecks g d) (signed-x-check (mirror (mirroredOf g) X) ∷ []) (ends upper X g d .demand .passed .0 z) in
+posed : (X : ℤ) (g : Given) (d : ℕ) → Passed (endChecks X g d) → Posed X g d
+posed X g d checks =
+    let (p, q) = split (problemChecks g d) (signed-x-check (mirror (mirroredOf g) X) ∷ []) checks in
     record { checks = p; problem = problem-in g d p; side = check-side (mirroredOf g) X (q .0) }
 
 module _ (upper : Bool) (X : ℤ) (g : Given) (d : ℕ) where
   answered : Passed (problemChecks g d) → Side (mirroredOf g) X → endRule upper X g d ≡ flagged (endOf upper g d X)
   answered p s =
-      let m = ends upper X g d in
-      m .says _ refl .made
-      (m .demand .passed .1
-      (join (problemChecks g d) (signed-x-check (mirror (mirroredOf g) X) ∷ []) p (side-checks (mirroredOf g) X s, tt)))
+      flag-given (endChecks X g d) (endOf upper g d X) (ends upper X g d)
+      (join (problemChecks g d) (signed-x-check (mirror (mirroredOf g) X) ∷ []) p (side-checks (mirroredOf g) X s, tt))
 
   known : (t : Bool) → endRule upper X g d ≡ flagged t → Posed X g d × (endOf upper g d X ≡ t)
-  known t e =
-      let f = posed upper X g d (ap (λ (r : End). r .code) e ∙ flag-done t) in
-      (f, is-test (endOf upper g d X) t (sym (answered (f .checks) (f .side)) ∙ e))
+  known t e = let k = flag-known (endChecks X g d) (endOf upper g d X) (ends upper X g d) t e in (posed X g d (k .0), k .1)
 
   -- what an answer says: what was asked, and what the test was
   pub accepted-says : endRule upper X g d ≡ flagged true → Posed X g d × T (endOf upper g d X)
