@@ -13,8 +13,10 @@ use Rattle.grid.specs.Grid.{one, H-units, T-units}
 use Rattle.whole.specs.Sign.{negative}
 use Rattle.whole.proofs.CodeRoom.{size-sign}
 use Rattle.grid.specs.Codes.{or, signed-x-check}
+use Rattle.grid.specs.Flyby.{B-top, X-top}
 use Rattle.orbit.specs.Mirror.{mirror}
 use Rattle.ends.specs.Ends.{upperEnd}
+use Rattle.flyby.specs.Ends.{endAt}
 use Rattle.orbit.specs.Given.{Given, grid, doubles, badM, badA}
 use Rattle.units.specs.Units.{mirrorDouble, belowZero, product, offRange}
 use Rattle.little.proofs.Digits.{one-byte}
@@ -113,5 +115,10 @@ conditions =
       reserved = λ claims start. rw (one-byte claims (start + twenty .reserved .at)) (differ _ _);
       x = λ x. less _ _;
       tested = tested;
+      flyby-m = λ m. less _ _;
+      flyby-b = λ b. either _ _ (less b one) (less B-top b);
+      flyby-x = λ x. less _ _;
+      flyby-estimate = off-range X-top false;
+      flyby-top = λ m b. fails (endAt true m b X-top);
       method = λ method. neither (eqb method 1) (eqb method 2) (differ _ _) (differ _ _);
     }

@@ -8,6 +8,7 @@ use lib.IntN.{ℤ}
 use lib.Ieee.{Float}
 use lib.ListN.{length}
 use Rattle.grid.specs.Codes.{order, a-check, depth-check, x-check, signed-x-check}
+use Rattle.grid.specs.Flyby.{flybyChecks}
 use Rattle.grid.specs.Refuses.{Refuses, inOrder, all}
 use Rattle.grid.proofs.Refuses.{refuses}
 use Rattle.grid.proofs.Made.{angles, signed-angles, eccentricities, depths-made}
@@ -36,6 +37,15 @@ use Rattle.distance.specs.Distance.{distanceChecks, distanceRule}
 use Rattle.distance.proofs.Answered.{distances}
 use Rattle.step.specs.Entry.{stepChecks, stepRule, judgedChecks, judgedRule}
 use Rattle.step.proofs.Answered.{steps, judged-steps}
+use Rattle.sinh.specs.Entry.{sinhChecks, sinhRule}
+use Rattle.sinh.proofs.Answers.{sinhs}
+use Rattle.flyby.specs.Entry as flyby
+use Rattle.flyby.proofs.Posed.{flybys}
+use Rattle.flyby.proofs.Answered as flyby_answers
+use Rattle.flyby_enclosure.specs.Enclosure as flyby_enclosure
+use Rattle.flyby_enclosure.proofs.Answers as flyby_encloses
+use Rattle.flyby_judge.specs.Judge as flyby_judge
+use Rattle.flyby_judge.proofs.Answered as flyby_judged
 use Rattle.claims.specs.Form.{twenty}
 use Rattle.claims.specs.Record.{recordChecks, claimAt, answerAt}
 use Rattle.claims.specs.Batch.{batchChecks, batchRule}
@@ -65,8 +75,15 @@ in-order : (x a d n i method : ℕ) (z : ℤ) (g : Given) (f : Float) (claims an
 unfolding order
 in-order x a d n i method z g f claims answers = tt
 
+flybys-in-order : (x m b n : ℕ) (f : Float)
+    → T (all (inOrder order)
+    (sinhChecks x ∷ flybyChecks m b ∷ flyby.endChecks x m b ∷ flyby_enclosure.enclosureChecks m b
+    ∷ flyby_judge.claimChecks (flyby_judge.claimOf m b f n) ∷ []))
+unfolding order
+flybys-in-order x m b n f = tt
+
 pub demand-1 : Demand1
-unfolding boundsRule proposalRule judgeRule settleRule distanceRule stepRule judgedRule batchRule order
+unfolding boundsRule proposalRule judgeRule settleRule distanceRule stepRule judgedRule sinhRule flyby.endRule flyby_enclosure.enclosureRule flyby_judge.judgeRule batchRule order
 demand-1 =
     record {
       sine = λ x d. bounded sine x d .demand;
@@ -80,6 +97,11 @@ demand-1 =
       distance = λ g x. distances g x .demand;
       step = λ m a x method. steps m a x method .demand;
       step-judged = λ m a x method n d. judged-steps m a x method n d .demand;
+      flyby-sinh = λ x. sinhs x .demand;
+      flyby-lower-end = λ x m b. flyby_answers.tests false x m b .demand;
+      flyby-upper-end = λ x m b. flyby_answers.tests true x m b .demand;
+      flyby-enclose = λ m b. flyby_encloses.enclosures m b .demand;
+      flyby-judge = λ k. flyby_judged.claims k .demand;
       batch = λ claims answers. batches twenty (length claims) (length answers) .demand;
       lent = refused-kept twenty;
       byte = bytes;
@@ -89,7 +111,9 @@ demand-1 =
       depth = λ d. depths-made d .demand;
       cell = λ g. cells g .demand;
       problem = λ g d. problems g d .demand;
+      posed-flyby = λ m b. flybys m b .demand;
       estimate = λ x. estimates x .demand;
+      flybys-in-order = flybys-in-order;
       in-order = in-order;
       conditions = conditions;
       own = tt;

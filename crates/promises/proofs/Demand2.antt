@@ -50,6 +50,9 @@ use Rattle.promises.proofs.Ends.{exact-says, spare-says, accepts-at, de
 use Rattle.promises.proofs.Rules.{rules}
 use Rattle.promises.proofs.Bytes.{after-judged}
 use Rattle.promises.proofs.Step.{judged-says}
+use Rattle.flyby_judge.proofs.Answered as flyby_judged
+use Rattle.promises.proofs.Flybys as flyby
+use Rattle.promises.proofs.Flybys.{sinh-true}
 
 -- ---- the bounds of sine and of cosine
 
@@ -180,5 +183,11 @@ demand-2 =
           let (same, says) = judged-says m a x method n d Refuted e in rw same (refuted-says (claimOf (grid m a) _ n d) says);
       byte-confirmed = λ claims answers i h e. confirmed-says (claimAt twenty claims i) (after-judged claims answers i Confirmed h e);
       byte-refuted = λ claims answers i h e. refuted-says (claimAt twenty claims i) (after-judged claims answers i Refuted h e);
+      flyby-sinh = sinh-true;
+      flyby-lower = flyby.exact-says false;
+      flyby-upper = flyby.exact-says true;
+      flyby-enclose = flyby.ends-true;
+      flyby-confirmed = flyby_judged.confirmed-exact;
+      flyby-refuted = flyby_judged.refuted-exact;
       rules = rules;
     }

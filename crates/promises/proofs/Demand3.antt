@@ -40,6 +40,7 @@ use Rattle.promises.proofs.Bytes.{byte-judged}
 use Rattle.promises.proofs.Step.{judged-says, judged-again}
 use Rattle.promises.proofs.Mirror.{neg-le, inside}
 use Rattle.promises.proofs.Ends.{accepted-says}
+use Rattle.promises.proofs.Flybys as flyby
 
 two-verdicts : (r : Judged) → r ≡ verdict Confirmed → r ≡ verdict Refuted → ⊥
 two-verdicts r e f = let h = ap (λ (r : Judged). r .verdict) (sym e ∙ f) in omega arith
@@ -137,4 +138,6 @@ demand-3 =
       within = λ g d e h s t.
           let w = deeper-within (cellOf g) d e h in
           rw (code-zero g d s .ends, code-zero g e t .ends) (inside _ _ _ _ (mirroredOf g) (w .0) (w .1));
+      flyby-apart = flyby.ends-apart;
+      flyby-never-both = flyby.never-both;
     }

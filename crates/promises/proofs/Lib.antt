@@ -4,6 +4,7 @@ pub mod Rules
 pub mod Mirror
 pub mod Ends
 pub mod Bytes
+pub mod Flybys
 pub mod Demand2
 pub mod Demand3
 pub mod Alike

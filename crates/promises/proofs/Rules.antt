@@ -24,6 +24,15 @@ use Rattle.distance.specs.Distance.{distanceRule}
 use Rattle.distance.proofs.Answered.{distances}
 use Rattle.step.specs.Entry.{stepRule, judgedRule}
 use Rattle.step.proofs.Answered.{steps, judged-steps}
+use Rattle.sinh.specs.Entry.{sinhRule}
+use Rattle.sinh.proofs.Answers.{sinhs}
+use Rattle.flyby.specs.Entry as flyby
+use Rattle.flyby.proofs.Posed.{flybys}
+use Rattle.flyby.proofs.Answered as flyby_answers
+use Rattle.flyby_enclosure.specs.Enclosure as flyby_enclosure
+use Rattle.flyby_enclosure.proofs.Answers as flyby_encloses
+use Rattle.flyby_judge.specs.Judge as flyby_judge
+use Rattle.flyby_judge.proofs.Answered as flyby_judged
 use Rattle.claims.specs.Form.{twenty}
 use Rattle.claims.specs.Record.{recordChecks, claimAt, answerAt}
 use Rattle.claims.specs.Batch.{batchRule}
@@ -34,7 +43,7 @@ use Rattle.promises.specs.Rules.{Rules}
 use Rattle.promises.proofs.Demand1.{demand-1}
 
 pub rules : Rules
-unfolding boundsRule proposalRule judgeRule settleRule distanceRule stepRule judgedRule batchRule answerAt
+unfolding boundsRule proposalRule judgeRule settleRule distanceRule stepRule judgedRule sinhRule flyby.endRule flyby_enclosure.enclosureRule flyby_judge.judgeRule batchRule answerAt
 rules =
     record {
       sine = λ x d. bounded sine x d .says _ refl .made;
@@ -48,6 +57,11 @@ rules =
       distance = λ g x. distances g x .says _ refl .made;
       step = λ m a x method. steps m a x method .says _ refl .made;
       step-judged = λ m a x method n d. judged-steps m a x method n d .says _ refl .made;
+      flyby-sinh = λ x. sinhs x .says _ refl .made;
+      flyby-lower-end = λ x m b. flyby_answers.tests false x m b .says _ refl .made;
+      flyby-upper-end = λ x m b. flyby_answers.tests true x m b .says _ refl .made;
+      flyby-enclose = λ m b. flyby_encloses.enclosures m b .says _ refl .made;
+      flyby-judge = λ k. flyby_judged.claims k .says _ refl .made;
       count = λ claims answers. batches twenty (length claims) (length answers) .says _ refl .made;
       written = byte-answered twenty;
       byte = λ claims i e.
@@ -62,5 +76,6 @@ rules =
       depth = λ d. depths-made d .says _ refl .made;
       cell = λ g. cells g .says _ refl .made;
       problem = λ g d. problems g d .says _ refl .made;
+      posed-flyby = λ m b. flybys m b .says _ refl .made;
       estimate = λ x. estimates x .says _ refl .made;
     }

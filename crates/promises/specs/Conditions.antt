@@ -11,13 +11,16 @@ use lib.Ieee.{Float, nan, inf, fin}
 use lib.Ieee.Positive.{den}
 use lib.ListN.{getD}
 use Rattle.grid.specs.Grid.{one, H-units, T-units, depths, N-units}
-use Rattle.grid.specs.Codes.{Check, a-check, depth-check, x-check, signed-x-check, n-check, method-check}
+use Rattle.grid.specs.Codes.{Check, bad-m, bad-a, bad-estimate, limit-check, span-check, a-check, depth-check, x-check, signed-x-check, n-check, method-check}
+use Rattle.grid.specs.Flyby.{M-top, B-top, X-top, X-check}
 use Rattle.orbit.specs.Mirror.{mirror}
 use Rattle.orbit.specs.Given.{Given, grid, doubles, badM, badA}
 use Rattle.orbit.specs.declared.Cell.{Cell}
 use Rattle.ends.specs.Ends.{upperEnd}
 use Rattle.enclosure.specs.Enclosure.{T-check}
-use Rattle.units.specs.Units.{mirrorDouble, product, estimate-check}
+use Rattle.units.specs.Units.{mirrorDouble, product, range-check, estimate-check}
+use Rattle.flyby.specs.Ends.{endAt}
+use Rattle.flyby_enclosure.specs.Enclosure.{top-check}
 use Rattle.claims.specs.Form.{twenty}
 use Rattle.claims.specs.Record.{reserved-check}
 use Rattle.claims.specs.Batch.{length-check, answers-check}
@@ -78,5 +81,11 @@ pub record Conditions : Type 0 where
   -- code 10, of an angle of sine and cosine; and of a tested one, which is mirrored with M
   pub x : (x : ℕ) → Exactly (x-check x) (T-units < x)
   pub tested : (mirrored : Bool) (x : ℤ) → Exactly (signed-x-check (mirror mirrored x)) (Opposes mirrored x ⊎ (T-units < natAbs x))
+  -- codes 1, 2, 10, 4 and 15 of a flyby
+  pub flyby-m : (m : ℕ) → Exactly (limit-check m M-top bad-m) (M-top < m)
+  pub flyby-b : (b : ℕ) → Exactly (span-check b one B-top bad-a) ((b < one) ⊎ (B-top < b))
+  pub flyby-x : (x : ℕ) → Exactly (X-check x) (X-top < x)
+  pub flyby-estimate : (x : Float) → Exactly (range-check x X-top bad-estimate) (HasSign true x ⊎ Oversize X-top x)
+  pub flyby-top : (m b : ℕ) → Exactly (top-check m b) (T (endAt true m b X-top) → ⊥)
   -- code 21
   pub method : (method : ℕ) → Exactly (method-check method) ((method ≡ 1 → ⊥) × (method ≡ 2 → ⊥))

@@ -9,6 +9,7 @@ use lib.IntN.{ℤ}
 use lib.Ieee.{Float}
 use lib.ListN.{length}
 use Rattle.grid.specs.Codes.{number, done, order, or, a-check, depth-check, x-check, signed-x-check}
+use Rattle.grid.specs.Flyby.{flybyChecks}
 use Rattle.grid.specs.Refuses.{Refuses, inOrder, distinct, all}
 use Rattle.grid.specs.Make.{angleWith, codedAngle, codedSigned, eccentricityWith, codedEccentricity, depthWith, codedDepth}
 use Rattle.grid.specs.declared.CodedAngle.{CodedAngle}
@@ -39,6 +40,12 @@ use Rattle.distance.specs.declared.Off.{Off}
 use Rattle.step.specs.Entry.{stepChecks, unstepped, stepRule, judgedChecks, unjudgedStep, judgedRule}
 use Rattle.step.specs.declared.Stepped.{Stepped}
 use Rattle.step.specs.declared.JudgedStep.{JudgedStep}
+use Rattle.sinh.specs.Entry.{sinhChecks, sinhRule}
+use Rattle.flyby.specs.Posed.{flybyWith, codedFlyby}
+use Rattle.flyby.specs.declared.CodedFlyby.{CodedFlyby}
+use Rattle.flyby.specs.Entry as flyby
+use Rattle.flyby_enclosure.specs.Enclosure as flyby_enclosure
+use Rattle.flyby_judge.specs.Judge as flyby_judge
 use Rattle.claims.specs.Form.{twenty}
 use Rattle.claims.specs.Record.{recordChecks, answerAt}
 use Rattle.claims.specs.Batch.{batchChecks, batchWith, batchRule, answersAfter}
@@ -72,6 +79,13 @@ pub record Demand1 : Type 0 where
       → Refuses (stepChecks m a x method) (λ (r : Stepped). r .code) unstepped (stepRule m a x method)
   pub step-judged : (m : ℤ) (a : ℕ) (x : Float) (method n d : ℕ)
       → Refuses (judgedChecks m a x method n d) (λ (r : JudgedStep). r .code) unjudgedStep (judgedRule m a x method n d)
+  pub flyby-sinh : (x : ℕ) → Refuses (sinhChecks x) (λ (r : Bounds). r .code) noBounds (sinhRule x)
+  pub flyby-lower-end : (x m b : ℕ) → Refuses (flyby.endChecks x m b) (λ (r : End). r .code) endRefused (flyby.lowerRule x m b)
+  pub flyby-upper-end : (x m b : ℕ) → Refuses (flyby.endChecks x m b) (λ (r : End). r .code) endRefused (flyby.upperRule x m b)
+  pub flyby-enclose : (m b : ℕ)
+      → Refuses (flyby_enclosure.enclosureChecks m b) (λ (r : Enclosure). r .code) refusal (flyby_enclosure.enclosureRule m b)
+  pub flyby-judge : (k : flyby_judge.Claim)
+      → Refuses (flyby_judge.claimChecks k) (λ (r : Judged). r .code) unjudged (flyby_judge.judgeRule k)
   pub batch : (claims answers : List ℕ)
       → Refuses (batchChecks twenty (length claims) (length answers)) (λ (r : Batch). r .code) (λ k. batchWith k 0)
       (batchOf claims answers)
@@ -88,8 +102,13 @@ pub record Demand1 : Type 0 where
   pub depth : (d : ℕ) → Refuses (depth-check d ∷ []) (λ (r : CodedDepth). r .code) (λ k. depthWith k 0) (codedDepth d)
   pub cell : (g : Given) → Refuses (checksOf g) (λ (r : CodedCell). r .code) noCell (codedCell g)
   pub problem : (g : Given) (d : ℕ) → Refuses (problemChecks g d) (λ (r : CodedProblem). r .code) noProblem (codedProblem g d)
+  pub posed-flyby : (m b : ℕ) → Refuses (flybyChecks m b) (λ (r : CodedFlyby). r .code) (λ k. flybyWith k 0 0) (codedFlyby m b)
   pub estimate : (x : Float) → Refuses (estimate-check x ∷ []) (λ (r : CodedUnits). r .code) zerosWith (codedEstimate x)
   -- R6: every list of checks is in the order
+  pub flybys-in-order : (x m b n : ℕ) (f : Float)
+      → T (all (inOrder order)
+      (sinhChecks x ∷ flybyChecks m b ∷ flyby.endChecks x m b ∷ flyby_enclosure.enclosureChecks m b
+      ∷ flyby_judge.claimChecks (flyby_judge.claimOf m b f n) ∷ []))
   pub in-order : (x a d n i method : ℕ) (z : ℤ) (g : Given) (f : Float) (claims answers : List ℕ)
       → T (all (inOrder order)
       (boundsChecks x d ∷ endChecks z g d ∷ enclosureChecks g d ∷ checksOf g ∷ problemChecks g d

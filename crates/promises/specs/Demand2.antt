@@ -31,10 +31,16 @@ use Rattle.judge.specs.Settle.{settledAs, settleRule}
 use Rattle.judge.specs.declared.Verdict.the-variants.{Confirmed, Refuted}
 use Rattle.judge.specs.Exact.{ConfirmedExact, AboveExact, BelowExact}
 use Rattle.step.specs.Entry.{judgedRule}
+use Rattle.sinh.specs.Entry.{sinhRule}
+use Rattle.flyby.specs.Ends.{Meets}
+use Rattle.flyby.specs.Entry as flyby
+use Rattle.flyby_enclosure.specs.Enclosure as flyby_enclosure
+use Rattle.flyby_judge.specs.Judge as flyby_judge
 use Rattle.claims.specs.Form.{twenty}
 use Rattle.claims.specs.Record.{claimAt}
 use Rattle.promises.specs.Demand1.{batchOf}
 use Rattle.promises.specs.Rules.{Rules, byteAfter}
+use Rattle.promises.specs.Flybys.{SinhTrue, FlybyEnds, FlybyConfirmed, FlybyRefuted}
 
 -- R14, R72: of what `sine` and `cosine` return with code 0, by the exact sums of terms 0 to 9 and 0 to 10
 pub record BoundsTrue (s : Series) (x : ℕ) (r : Bounds) : Type 0 where
@@ -124,5 +130,12 @@ pub record Demand2 : Type 0 where
       → byteAfter claims answers i ≡ verdictNumber Confirmed → ConfirmedTrue (claimAt twenty claims i)
   pub byte-refuted : (claims answers : List ℕ) (i : ℕ) → i < batchOf claims answers .count
       → byteAfter claims answers i ≡ verdictNumber Refuted → RefutedTrue (claimAt twenty claims i)
+  -- R83, R86, R88 and R89: of a flyby
+  pub flyby-sinh : (x : ℕ) → sinhRule x .code ≡ number done → SinhTrue x (sinhRule x)
+  pub flyby-lower : (x m b : ℕ) → flyby.lowerRule x m b ≡ flagged true → Meets false m b x
+  pub flyby-upper : (x m b : ℕ) → flyby.upperRule x m b ≡ flagged true → Meets true m b x
+  pub flyby-enclose : (m b : ℕ) → flyby_enclosure.enclosureRule m b .code ≡ number done → FlybyEnds m b (flyby_enclosure.enclosureRule m b)
+  pub flyby-confirmed : (k : flyby_judge.Claim) → flyby_judge.judgeRule k ≡ verdict Confirmed → FlybyConfirmed k
+  pub flyby-refuted : (k : flyby_judge.Claim) → flyby_judge.judgeRule k ≡ verdict Refuted → FlybyRefuted k
   -- every number is the one its rule gives
   pub rules : Rules

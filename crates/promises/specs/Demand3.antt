@@ -8,7 +8,8 @@ use lib.Dec.{T}
 use lib.IntN.{ℤ}
 use lib.Ieee.{Float}
 use lib.Signed.{_≤ℤ_}
-use Rattle.grid.specs.Grid.{T-units, depths}
+use Rattle.grid.specs.Grid.{one, T-units, depths}
+use Rattle.grid.specs.Flyby.{X-top}
 use Rattle.grid.specs.Codes.{number, done}
 use Rattle.orbit.specs.Cell.{CellIn}
 use Rattle.orbit.specs.Given.{Given}
@@ -17,12 +18,14 @@ use Rattle.ends.specs.Entry.{flagged, lowerRule, upperRule}
 use Rattle.enclosure.specs.Enclosure.{enclosureRule}
 use Rattle.enclosure.specs.declared.Enclosure.{Enclosure}
 use Rattle.units.specs.declared.Units.{Units}
-use Rattle.judge.specs.Verdict.{confirmed, refuted, verdictNumber}
+use Rattle.judge.specs.Verdict.{confirmed, refuted, confirmedBy, refutedBy, verdictNumber}
 use Rattle.judge.specs.Judge.{Claim, verdict, judgeRule}
 use Rattle.judge.specs.declared.Verdict.{Verdict}
 use Rattle.judge.specs.declared.Verdict.the-variants.{Confirmed, Refuted}
 use Rattle.judge.specs.Exact.{atDepth}
 use Rattle.step.specs.Entry.{judgedRule}
+use Rattle.flyby.specs.Entry as flyby
+use Rattle.flyby_judge.specs.Judge as flyby_judge
 use Rattle.claims.specs.Form.{twenty}
 use Rattle.claims.specs.Record.{reserved-check, claimAt, answerAt}
 
@@ -66,3 +69,8 @@ pub record Demand3 : Type 0 where
   -- R30
   pub within : (g : Given) (d other : ℕ) → d ≤ other → enclosureRule g d .code ≡ number done → enclosureRule g other .code ≡ number done
       → Within (enclosureRule g other) (enclosureRule g d)
+  -- R86
+  pub flyby-apart : (x y m b : ℕ) → flyby.lowerRule x m b ≡ flagged true → flyby.upperRule y m b ≡ flagged true → x ≤ y
+  -- R46, R89, of the tests of a flyby; one depth has one answer
+  pub flyby-never-both : (m b : ℕ) (u : Units) (n : ℕ) → one ≤ b → u .ceiling ≤ X-top
+      → T (confirmedBy (flyby_judge.testsOf m b) u n) → T (refutedBy (flyby_judge.testsOf m b) u n) → ⊥

@@ -1,6 +1,7 @@
 pub mod Conditions
 pub mod Demand1
 pub mod Rules
+pub mod Flybys
 pub mod Demand2
 pub mod Demand3
 pub mod Alike

@@ -3,7 +3,7 @@ use mathlib.Core.Path.{_≡_}
 use mathlib.Core.Bool.{true, false}
 use mathlib.Core.List.{List}
 use Prim.Native.Nat.{ℕ, _/_, _≤_, _<_}
-use lib.IntN.{ℤ, natAbs}
+use lib.IntN.{ℤ, pos, natAbs}
 use lib.Ieee.{Float}
 use lib.ListN.{length, getD}
 use Rattle.grid.specs.Grid.{depths}
@@ -22,6 +22,13 @@ use Rattle.judge.specs.Judge.{Claim, claimOf, caseAt, caseVerdict, verdict, jud
 use Rattle.judge.specs.Settle.{settledBy, settleRule}
 use Rattle.distance.specs.Distance.{offBy, unitsOf, distanceRule}
 use Rattle.step.specs.Entry.{stepFrom, steppedAs, stepRule, judgedAs, judgedRule}
+use Rattle.sinh.specs.Sinh.{low, high}
+use Rattle.sinh.specs.Entry.{sinhRule}
+use Rattle.flyby.specs.Ends as flyby_ends
+use Rattle.flyby.specs.Entry as flyby
+use Rattle.flyby.specs.Posed.{flybyWith, codedFlyby}
+use Rattle.flyby_enclosure.specs.Enclosure as flyby_enclosure
+use Rattle.flyby_judge.specs.Judge as flyby_judge
 use Rattle.claims.specs.Form.{twenty}
 use Rattle.claims.specs.Record.{claimAt, answerAt}
 use Rattle.claims.specs.AnswerByte.{AnswerByte}
@@ -60,6 +67,15 @@ pub record Rules : Type 0 where
   -- R79: the same step, judged
   pub step-judged : (m : ℤ) (a : ℕ) (x : Float) (method n d : ℕ)
       → Gives (λ r. r .code) (judgedRule m a x method n d) (judgedAs m a n d (stepFrom m a x method))
+  -- R84
+  pub flyby-sinh : (x : ℕ) → Gives (λ r. r .code) (sinhRule x) (record { code = number done; lo = pos (low x); hi = pos (high x) })
+  -- R87
+  pub flyby-lower-end : (x m b : ℕ) → Gives (λ r. r .code) (flyby.lowerRule x m b) (flagged (flyby_ends.endAt false m b x))
+  pub flyby-upper-end : (x m b : ℕ) → Gives (λ r. r .code) (flyby.upperRule x m b) (flagged (flyby_ends.endAt true m b x))
+  -- R88
+  pub flyby-enclose : (m b : ℕ) → Gives (λ r. r .code) (flyby_enclosure.enclosureRule m b) (flyby_enclosure.enclosed m b)
+  -- R89
+  pub flyby-judge : (k : flyby_judge.Claim) → Gives (λ r. r .code) (flyby_judge.judgeRule k) (verdict (flyby_judge.claimVerdict k))
   -- R51
   pub count : (claims answers : List ℕ)
       → Gives (λ r. r .code) (batchOf claims answers) (batchWith (number done) (length claims / twenty .width))
@@ -82,4 +98,5 @@ pub record Rules : Type 0 where
   pub cell : (g : Given) → Gives (λ r. r .code) (codedCell g) (cellWith (number done) (mirroredOf g) (cellOf g))
   pub problem : (g : Given) (d : ℕ)
       → Gives (λ r. r .code) (codedProblem g d) (problemWith (number done) (mirroredOf g) (problemAt (cellOf g) d))
+  pub posed-flyby : (m b : ℕ) → Gives (λ r. r .code) (codedFlyby m b) (flybyWith (number done) m b)
   pub estimate : (x : Float) → Gives (λ r. r .code) (codedEstimate x) (unitsWith (number done) (floorAndCeiling x))

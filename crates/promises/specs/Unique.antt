@@ -11,7 +11,6 @@ use lib.ListN.{length}
 use Rattle.whole.specs.Sign as sign
 use Rattle.whole.specs.Sign.{signedBy}
 use Rattle.little.specs.LittleEndian.{twosComplement}
-use Rattle.grid.specs.Grid.{T-units}
 use Rattle.grid.specs.Codes as codes
 use Rattle.grid.specs.Make.{codedAngle, codedSigned, codedEccentricity, codedDepth}
 use Rattle.grid.specs.declared.CodedAngle.{CodedAngle}
@@ -32,9 +31,9 @@ use Rattle.orbit.specs.declared.Cell.{Cell}
 use Rattle.orbit.specs.Given.{Given, codedCell, codedProblem}
 use Rattle.orbit.specs.declared.CodedCell.{CodedCell}
 use Rattle.orbit.specs.declared.CodedProblem.{CodedProblem}
-use Rattle.ends.specs.Entry.{lowerRule, upperRule}
+use Rattle.ends.specs.Entry.{flagged, lowerRule, upperRule}
 use Rattle.ends.specs.declared.End.{End}
-use Rattle.enclosure.specs.Enclosure.{enclosureRule}
+use Rattle.enclosure.specs.Enclosure.{refusal, enclosureRule}
 use Rattle.enclosure.specs.declared.Enclosure.{Enclosure}
 use Rattle.rotations.specs.Rotate.{brought}
 use Rattle.proposal.specs.Propose.{proposalRule}
@@ -52,6 +51,12 @@ use Rattle.distance.specs.declared.Off.{Off}
 use Rattle.step.specs.Entry.{stepRule, judgedRule}
 use Rattle.step.specs.declared.Stepped.{Stepped}
 use Rattle.step.specs.declared.JudgedStep.{JudgedStep}
+use Rattle.sinh.specs.Entry.{sinhRule}
+use Rattle.flyby.specs.Entry as flyby
+use Rattle.flyby.specs.Posed.{codedFlyby}
+use Rattle.flyby.specs.declared.CodedFlyby.{CodedFlyby}
+use Rattle.flyby_enclosure.specs.Enclosure as flyby_enclosure
+use Rattle.flyby_judge.specs.Judge as flyby_judge
 use Rattle.claims.specs.Form.{twenty}
 use Rattle.claims.specs.Batch.{batchRule, answersAfter}
 use Rattle.claims.specs.declared.Batch.{Batch}
@@ -87,6 +92,11 @@ pub record Unique : Type 0 where
   pub step : (m : ℤ) (a : ℕ) (estimate : Float) (method : ℕ) → OneResult (λ (r : Stepped). r ≡ stepRule m a estimate method)
   pub step-judged : (m : ℤ) (a : ℕ) (estimate : Float) (method n depth : ℕ)
       → OneResult (λ (r : JudgedStep). r ≡ judgedRule m a estimate method n depth)
+  pub flyby-sinh : (x : ℕ) → OneResult (λ (r : Bounds). r ≡ sinhRule x)
+  pub flyby-lower-end : (x m b : ℕ) → OneResult (λ (r : End). r ≡ flyby.lowerRule x m b)
+  pub flyby-upper-end : (x m b : ℕ) → OneResult (λ (r : End). r ≡ flyby.upperRule x m b)
+  pub flyby-enclose : (m b : ℕ) → OneResult (λ (r : Enclosure). r ≡ flyby_enclosure.enclosureRule m b)
+  pub flyby-judge : (m b : ℕ) (estimate : Float) (n : ℕ) → OneResult (λ (r : Judged). r ≡ flyby_judge.judgeRule (flyby_judge.claimOf m b estimate n))
   pub judge-claims : (claims before : List ℕ) → OneResult (BatchAllows claims before)
   -- the checked constructors, and a double in units
   pub angle : (units : ℕ) → OneResult (λ (r : CodedAngle). r ≡ codedAngle units)
@@ -95,18 +105,23 @@ pub record Unique : Type 0 where
   pub depth : (pairs : ℕ) → OneResult (λ (r : CodedDepth). r ≡ codedDepth pairs)
   pub cell : (g : Given) → OneResult (λ (r : CodedCell). r ≡ codedCell g)
   pub problem : (g : Given) (depth : ℕ) → OneResult (λ (r : CodedProblem). r ≡ codedProblem g depth)
+  pub posed-flyby : (m b : ℕ) → OneResult (λ (r : CodedFlyby). r ≡ codedFlyby m b)
   pub in-units : (value : Float) (limit code : ℕ) → OneResult (λ (r : CodedUnits). r ≡ codedUnits value limit code)
   -- the functions that crates share: the program's, the codes', what bounds are asked for, a walk's bounds and whether its terms
-  -- are spent, a cell of the grid, the clamps into 0 to T, a verdict's number, signs and the mirror
+  -- are spent, a cell of the grid, the clamps into 0 to a top, an end's flag and an enclosure's refusal, a verdict's number, signs and the mirror
   pub answer-file : (input before : List ℕ) → OneResult (FileAllows input before)
   pub limited : (n limit code : ℕ) → OneResult (λ (r : ℕ). r ≡ cond (ltb limit n) code (codes.number codes.done))
+  pub spanned : (n least limit code : ℕ)
+      → OneResult (λ (r : ℕ). r ≡ cond (codes.or (ltb n least) (ltb limit n)) code (codes.number codes.done))
   pub earlier : (code next : ℕ) → OneResult (λ (r : ℕ). r ≡ codes.earlier code next)
   pub ask : (x depth : ℕ) → OneResult (λ (r : Asked). r ≡ askedFor x depth)
   pub best : (w : Walk) → OneResult (λ (r : Biased). r ≡ record { lo = w .greatest; hi = w .least })
   pub spent : (w : Walk) → OneResult (λ (r : Bool). r ≡ spentAt w)
   pub on-grid : (m a : ℕ) → OneResult (λ (r : Cell). r ≡ gridCell m a)
   pub step-down : (x n : ℕ) → OneResult (λ (r : ℕ). r ≡ x - n)
-  pub step-up : (x n : ℕ) → OneResult (λ (r : ℕ). r ≡ min (x + n) T-units)
+  pub step-up : (x n top : ℕ) → OneResult (λ (r : ℕ). r ≡ min (x + n) top)
+  pub flag : (accepted : Bool) → OneResult (λ (r : End). r ≡ flagged accepted)
+  pub no-enclosure : (code : ℕ) → OneResult (λ (r : Enclosure). r ≡ refusal code)
   pub bring : (angle : ℤ) → OneResult (λ (r : ℕ). r ≡ brought angle)
   pub number-of : (v : Verdict) → OneResult (λ (r : ℕ). r ≡ verdictNumber v)
   pub signed : (z : ℤ) (plus : Bool) → OneResult (λ (r : ℤ). r ≡ signedBy plus z)
