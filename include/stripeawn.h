@@ -150,9 +150,9 @@ extern "C" {
 
 /* Version. */
 #define STRIPEAWN_VERSION_MAJOR 0
-#define STRIPEAWN_VERSION_MINOR 8
+#define STRIPEAWN_VERSION_MINOR 9
 #define STRIPEAWN_VERSION_PATCH 0
-#define STRIPEAWN_VERSION "0.8.0"
+#define STRIPEAWN_VERSION "0.9.0"
 
 /* Limits: the greatest value taken. M goes down to -H, and X to -T. */
 #define STRIPEAWN_M_MAX 843314856     /* H, the whole part of pi 2^28      */
@@ -707,7 +707,9 @@ struct stripeawn_bounds stripeawn_flyby_sinh(uint32_t x);
 ** 1) As a lower end 0 is always accepted; as an upper end it is accepted
 **    where m is 0, and only there. Both ends are then accepted at 0, the
 **    root; nowhere else are they at one x.
-** 2) An x may be neither. The accepted ones need not be one unbroken run.
+** 2) An x may be neither. The accepted ones are unbroken runs: every x below
+**    an accepted lower end is one, and so is every x from an accepted upper
+**    end up to 2^29.
 */
 struct stripeawn_end stripeawn_flyby_lower_end(uint32_t x, uint32_t m,
                                                uint32_t b);
@@ -722,9 +724,8 @@ struct stripeawn_end stripeawn_flyby_upper_end(uint32_t x, uint32_t m,
 **    m       M in units, 0 to 2^31 - 1
 **    b       B, which is 2^28 e, 2^28 to 2^30
 ** Returned:
-**    lower   an accepted lower end, units, where lower + 1 is not accepted
-**    upper   an accepted upper end, units, where upper - 1 is not accepted
-**            or upper is 0
+**    lower   the greatest accepted lower end, units
+**    upper   the least accepted upper end, units
 ** Status:
 **    1 = m above 2^31 - 1
 **    2 = b below 2^28 or above 2^30
@@ -762,8 +763,10 @@ struct stripeawn_enclosure stripeawn_flyby_enclose(uint32_t m, uint32_t b);
 **    Refuted that it is more than n units away; both mean the exact values
 **    of M, e and the estimate. Undecided promises nothing. No verdict speaks
 **    of the residual e sinh X - X - M, which may be small far from the root.
-** 2) There is one depth: what is Undecided stays so. A lesser or a greater n
-**    may decide it, and the enclosure says what can be known.
+** 2) What is Confirmed stays so with every greater n, and what is Refuted
+**    with every lesser one. After Undecided ask stripeawn_flyby_enclose: an
+**    estimate from its lower to its upper end is Confirmed with every n from
+**    upper - lower up.
 ** 3) Where stripeawn_flyby_enclose answers 15, an estimate may still be
 **    judged. The root may then be beyond every estimate that is taken.
 */

@@ -15,14 +15,15 @@ use Rattle.whole.proofs.Bools.{fails}
 use Rattle.whole.proofs.Parts.{is-pos, is-mul-right}
 use Rattle.whole.proofs.Order.{le-parts}
 use Rattle.grid.specs.Grid.{one}
-use Rattle.grid.specs.Codes.{bad-a}
+use Rattle.grid.specs.Codes.{Passed, bad-a}
 use Rattle.grid.specs.Flyby.{M-top, B-top, X-top, flybyChecks}
 use Rattle.grid.proofs.Fits.{span-passes}
 use Rattle.grid.proofs.FirstCode.{only-last}
 use Rattle.series.proofs.Factorial.{den-is, num-is}
-use Rattle.units.specs.Units.{offRange}
+use Rattle.units.specs.Units.{offRange, floorAndCeiling}
 use Rattle.units.specs.declared.Units.{Units}
-use Rattle.judge.specs.Verdict.{confirmedBy, refutedBy}
+use Rattle.judge.specs.Verdict.{lowEnd, highEndTo, confirmedBy, refutedBy}
+use Rattle.judge.specs.Judge.{verdict}
 use Rattle.judge.proofs.Verdicts as verdicts
 use Rattle.ends.specs.Entry.{flagged}
 use Rattle.sinh.specs.Sinh.{low, high, S, t9, denS}
@@ -38,11 +39,11 @@ use Rattle.flyby.proofs.Answered.{accepted-says, declined-says, accepts, declin
 use Rattle.flyby.proofs.Exact.{end-true, e-rises, apart, lower-run, upper-run, zero-lower, zero-upper, top-never}
 use Rattle.flyby_enclosure.specs.Enclosure.{top-check, foundLower, foundUpper, enclosureRule}
 use Rattle.flyby_enclosure.proofs.Answers.{enclosures, code-zero, encloses}
-use Rattle.flyby_judge.specs.Judge.{testsOf, claimOf, judgeRule}
-use Rattle.flyby_judge.proofs.Answered.{tests-in-order, case-in, judged-passed}
+use Rattle.flyby_judge.specs.Judge.{Claim, testsOf, claimOf, claimChecks, judgeRule}
+use Rattle.flyby_judge.proofs.Answered.{tests-in-order, case-in, answered, judged-passed}
 use Rattle.flyby_judge.proofs.Wider.{wider, narrower}
 use Rattle.step.specs.Step.{plus-zero}
-use Rattle.judge.specs.declared.Verdict.the-variants.{Refuted}
+use Rattle.judge.specs.declared.Verdict.the-variants.{Confirmed, Refuted}
 use Rattle.promises.specs.Flybys.{SinhTrue, further, FlybyEnd, FlybyEnds, Within, Flybys}
 use Rattle.promises.proofs.Rules.{rules}
 
@@ -181,6 +182,31 @@ module _ (m b x : ℕ) (e : enclosureRule m b .code ≡ 0) where
             (encloses m b e .upper .next)
       ])
 
+-- R89
+inside : (k : Claim) → enclosureRule (k .m) (k .b) .code ≡ 0 → Passed (claimChecks k)
+    → natAbs (enclosureRule (k .m) (k .b) .lower) ≤ floorAndCeiling (k .estimate) .floor
+    → floorAndCeiling (k .estimate) .ceiling ≤ natAbs (enclosureRule (k .m) (k .b) .upper)
+    → natAbs (enclosureRule (k .m) (k .b) .upper) ≤ natAbs (enclosureRule (k .m) (k .b) .lower) + k .n
+    → judgeRule k ≡ verdict Confirmed
+inside k e p below above near =
+    let m = k .m in
+    let b = k .b in
+    let t = testsOf m b in
+    let u = floorAndCeiling (k .estimate) in
+    let z = code-zero m b e in
+    let found = encloses m b e in
+    let w = found .upper .within in
+    let lower = rw (z .ends) at below in
+    let upper = rw (z .ends) at above in
+    let width = rw (z .ends) at near in
+    answered k p
+    ∙ ap verdict
+    (verdicts.verdict-confirmed t u (k .n)
+    (verdicts.confirmed-by t u (k .n) .1 (
+      lower-run m b (z .flyby .least) (foundLower m b) (lowEnd u (k .n)) (omega arith) (found .lower .accepted),
+      upper-run m b (z .flyby .least) (highEndTo X-top u (k .n)) (foundUpper m b) (omega arith) (found .upper .accepted),
+    )))
+
 -- R41
 zeros-alike : (m b n : ℕ) → judgeRule (claimOf m b (neg plus-zero) n) ≡ judgeRule (claimOf m b plus-zero n)
 unfolding judgeRule offRange neg
@@ -210,5 +236,6 @@ flybys =
       all-upper = all-upper;
       wider = λ k n h few. wider k n few h;
       narrower = λ k n h e. let few = case-in k (judged-passed k Refuted e) .tolerance in narrower k n (omega arith) h e;
+      inside = inside;
       either-zero = zeros-alike;
     }

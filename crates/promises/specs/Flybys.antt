@@ -8,7 +8,7 @@ use lib.Ieee.{Float, neg}
 use lib.Signed.{_≤ℤ_}
 use Rattle.grid.specs.Grid.{one, N-units}
 use Rattle.grid.specs.Codes.{number, done, no-flyby-end, Passed}
-use Rattle.grid.specs.Flyby.{M-top, B-top, X-top, flybyChecks}
+use Rattle.grid.specs.Flyby.{M-top, B-top, X-top}
 use Rattle.series.specs.Factorial.{factorial}
 use Rattle.series.specs.declared.Bounds.{Bounds}
 use Rattle.units.specs.Units.{floorAndCeiling}
@@ -22,7 +22,7 @@ use Rattle.sinh.specs.Entry.{sinhRule}
 use Rattle.flyby.specs.Ends.{Meets}
 use Rattle.flyby.specs.Entry.{endRule}
 use Rattle.flyby_enclosure.specs.Enclosure.{enclosureRule}
-use Rattle.flyby_judge.specs.Judge.{Claim, claimOf, judgeRule}
+use Rattle.flyby_judge.specs.Judge.{Claim, claimOf, claimChecks, judgeRule}
 use Rattle.step.specs.Step.{plus-zero}
 
 -- R83: of what `flyby_sinh` returns with code 0, by the exact sum of all-positive terms 0 to 9, and with its last term once more
@@ -101,5 +101,11 @@ pub record Flybys : Type 0 where
       → judgeRule (claimOf (k .m) (k .b) (k .estimate) n) ≡ verdict Confirmed
   pub narrower : (k : Claim) (n : ℕ) → n ≤ k .n → judgeRule k ≡ verdict Refuted
       → judgeRule (claimOf (k .m) (k .b) (k .estimate) n) ≡ verdict Refuted
+  -- R89: an estimate between the ends of the enclosure is Confirmed with every tolerance from their distance up
+  pub inside : (k : Claim) → enclosureRule (k .m) (k .b) .code ≡ number done → Passed (claimChecks k)
+      → natAbs (enclosureRule (k .m) (k .b) .lower) ≤ floorAndCeiling (k .estimate) .floor
+      → floorAndCeiling (k .estimate) .ceiling ≤ natAbs (enclosureRule (k .m) (k .b) .upper)
+      → natAbs (enclosureRule (k .m) (k .b) .upper) ≤ natAbs (enclosureRule (k .m) (k .b) .lower) + k .n
+      → judgeRule k ≡ verdict Confirmed
   -- R41: either zero as an estimate is 0
   pub either-zero : (m b n : ℕ) → judgeRule (claimOf m b (neg plus-zero) n) ≡ judgeRule (claimOf m b plus-zero n)
