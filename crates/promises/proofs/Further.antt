@@ -44,6 +44,7 @@ use Rattle.promises.specs.Further.{Sums, Ends, Searches, Proposals, Esti
 use Rattle.promises.proofs.Figures.{figures}
 use Rattle.promises.proofs.Distance.{distance}
 use Rattle.promises.proofs.Step.{steps-met}
+use Rattle.promises.proofs.Flybys.{flybys}
 use Rattle.promises.proofs.Alike.{mirrored, doubles-met}
 use Rattle.promises.proofs.Mirror.{at-0}
 use Rattle.promises.proofs.Ends.{accepted-says, accepts, accepts-at, declines-at}
@@ -185,6 +186,7 @@ further =
       distance = distance;
       cosine-sums = cosine-sums;
       steps = steps-met;
+      flybys = flybys;
       mirrored = mirrored;
       doubles = doubles-met;
       program = record { complete = program.complete; longer = program.longer; cut = program.cut };

@@ -49,6 +49,7 @@ use Rattle.promises.specs.Figures.{Figures}
 use Rattle.promises.specs.Distance.{Distance}
 use Rattle.promises.specs.Cosine.{CosineSums}
 use Rattle.promises.specs.Step.{Steps}
+use Rattle.promises.specs.Flybys.{Flybys}
 
 pub record Sums : Type 0 where
   -- R8: 2^28 t_n is X^(2n+1) over (2^56)^n (2n+1)!
@@ -177,6 +178,7 @@ pub record Further : Type 0 where
   pub distance : Distance
   pub cosine-sums : CosineSums
   pub steps : Steps
+  pub flybys : Flybys
   pub mirrored : Mirrored
   pub doubles : Doubles
   pub program : Program
