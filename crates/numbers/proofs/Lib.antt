@@ -1,3 +1,4 @@
 pub mod Rows
 pub mod Starred
 pub mod StepNumbers
+pub mod FlybyNumbers
