@@ -23,8 +23,8 @@ impl Flyby {
     pub fn new(m: u32, b: u32) -> CodedFlyby
         ensures { λ r. ⌜ r ≡ codedFlyby m b ⌝ }
     {
-        let m_code = codes::limited(m, grid::flyby::M, codes::BAD_M);
-        let b_code = codes::spanned(b, grid::flyby::B_LEAST, grid::flyby::B, codes::BAD_A);
+        let m_code = codes::limited(m, grid::FLYBY_M, codes::BAD_M);
+        let b_code = codes::spanned(b, grid::FLYBY_B_LEAST, grid::FLYBY_B, codes::BAD_A);
         let code = codes::earlier(m_code, b_code);
         if code == codes::DONE {
             CodedFlyby {
@@ -61,7 +61,7 @@ fn end_test(x: u32, m: u32, b: u32, upper: bool) -> End
     ensures { λ r. ⌜ r ≡ endRule upper x m b ⌝ }
 {
     let posed = Flyby::new(m, b);
-    let x_code = codes::limited(x, grid::flyby::TOP, codes::BAD_X);
+    let x_code = codes::limited(x, grid::FLYBY_TOP, codes::BAD_X);
     let code = codes::earlier(posed.code, x_code);
     if code != codes::DONE {
         return End { code, accepted: 0 };

@@ -32,7 +32,7 @@ fn last_bracket(f: Flyby, upper: bool) -> Bracket
     ensures { λ r. ⌜ r ≡ lastBracket (movesP upper (f .mean) (f .shape)) X-top ⌝ }
 {
     let mut p = 0;
-    let mut q = grid::flyby::TOP;
+    let mut q = grid::FLYBY_TOP;
     while q - p > 1 {
         let middle = (p + q) / 2;
         if moves_p(f, middle, upper) {
@@ -65,7 +65,7 @@ fn enclose_posed(f: Flyby) -> Enclosure
     requires { ⌜ FlybyIn f ⌝ }
     ensures { λ r. ⌜ r ≡ checked (top-check (f .mean) (f .shape) ∷ []) refusal (enclosed (f .mean) (f .shape)) ⌝ }
 {
-    if !flyby::accepted(f, grid::flyby::TOP as u64, true) {
+    if !flyby::accepted(f, grid::FLYBY_TOP as u64, true) {
         return enclosure::refused(codes::NO_FLYBY_END);
     }
     let found = find_ends(f);

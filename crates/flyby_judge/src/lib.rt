@@ -17,7 +17,7 @@ pub struct Case {
 }
 
 // 2^29, where no X lies above.
-const TOP: u64 = grid::flyby::TOP as u64;
+const TOP: u64 = grid::FLYBY_TOP as u64;
 
 // R43, of the reach p to q of R42.
 fn confirms(k: Case) -> bool
@@ -88,7 +88,7 @@ pub fn judge(m: u32, b: u32, estimate: f64, n: u32) -> Judged
     ensures { λ r. ⌜ r ≡ judgeRule (claimOf m b estimate n) ⌝ }
 {
     let posed = Flyby::new(m, b);
-    let made = units::in_units(estimate, grid::flyby::TOP, codes::BAD_ESTIMATE);
+    let made = units::in_units(estimate, grid::FLYBY_TOP, codes::BAD_ESTIMATE);
     let n_code = codes::limited(n, judge::N_LIMIT, codes::BAD_N);
     let code = codes::earlier(posed.code, codes::earlier(made.code, n_code));
     if code != codes::DONE {

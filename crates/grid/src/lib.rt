@@ -4,7 +4,6 @@ ghost use Prim.Native.Nat.{_+_, _-_, min};
 ghost use Rattle.grid.specs.Make.{codedAngle, codedSigned, codedEccentricity, codedDepth};
 
 pub mod codes;
-pub mod flyby;
 
 // An angle of 0 to T units; one unit is 2^-28 radian.
 pub struct Angle {
@@ -133,6 +132,16 @@ impl Depth {
 pub const T: u64 = Angle::T as u64;
 
 pub const ONE: u64 = Eccentricity::ONE as u64;
+
+// R81: the largest mean anomaly of a flyby, in units; B of its eccentricity B / 2^28, from e = 1 to e = 4; and the largest X tested,
+// two radians.
+pub const FLYBY_M: u32 = 2_147_483_647;
+
+pub const FLYBY_B_LEAST: u32 = Eccentricity::ONE;
+
+pub const FLYBY_B: u32 = 1_073_741_824;
+
+pub const FLYBY_TOP: u32 = 536_870_912;
 
 // n units below x, or 0 where that is below 0.
 pub fn step_down(x: u64, n: u64) -> u64

@@ -8,7 +8,6 @@ ghost use Rattle.sinh.specs.Sinh.{last, low, high};
 ghost use Rattle.sinh.specs.Adding.{rounded, square, addedTo};
 ghost use Rattle.sinh.specs.Entry.{sinhRule};
 use grid::codes;
-use grid::flyby;
 use series::Bounds;
 
 // R82: the number of the last term.
@@ -82,7 +81,7 @@ pub fn high(x: u64) -> u64
 pub fn sinh(x: u32) -> Bounds
     ensures { λ r. ⌜ r ≡ sinhRule x ⌝ }
 {
-    let code = codes::limited(x, flyby::TOP, codes::BAD_X);
+    let code = codes::limited(x, grid::FLYBY_TOP, codes::BAD_X);
     if code != codes::DONE {
         return Bounds { code, lo: 0, hi: 0 };
     }
