@@ -11,7 +11,7 @@ use Rattle.grid.specs.Grid.{one}
 use Rattle.grid.specs.Flyby.{X-top}
 use Rattle.sinh.specs.Sinh.{low, high, S, t9, denS}
 use Rattle.sinh.proofs.Limits.{high-zero, low-zero, low-lt-high, low-steep, high-steep}
-use Rattle.sinh.proofs.Truth.{low-true, high-true, rises}
+use Rattle.sinh.proofs.Exact.{low-true, high-true, rises}
 use Rattle.flyby.specs.Ends.{endAt, Meets}
 
 module _ (m b X : ℕ) where

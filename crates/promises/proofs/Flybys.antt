@@ -30,7 +30,7 @@ use Rattle.sinh.specs.Sinh.{low, high, S, t9, denS}
 use Rattle.sinh.specs.Entry.{sinhRule}
 use Rattle.sinh.proofs.Answers.{sinh-within}
 use Rattle.sinh.proofs.Limits.{low-zero, high-zero, low-lt-high, high-small}
-use Rattle.sinh.proofs.Truth.{low-true, high-true}
+use Rattle.sinh.proofs.Exact.{low-true, high-true}
 use Rattle.flyby.specs.Ends.{endAt, Meets}
 use Rattle.flyby.specs.Entry.{endRule}
 use Rattle.flyby.specs.Posed.{FlybyIn}

@@ -3,7 +3,6 @@ use mathlib.Core.Path.{_≡_, refl, sym, ap₂, subst, _∙_}
 use mathlib.Core.Bool.{Bool, true, false}
 use Prim.Native.Nat.{ℕ, zero, suc, _+_, _*_, _≤_, _<_}
 use native.Mathlib.Omega.{arith}
-use native.Mathlib.Nat.{mul-le-mul}
 use native.Mathlib.Numerals.{add-one}
 use Rattle.grid.specs.Grid.{one}
 use Rattle.grid.specs.Flyby.{X-top}
@@ -47,19 +46,13 @@ module _ (X : ℕ) (h : X ≤ X-top) where
   total-small above (suc k) = omega (arith, total-small above k, term-small above (suc k))
 
   module _ {above : Bool} {k term sum q : ℕ} (a : Adding above X k term sum) (more : k < last) (q-is : q ≡ square above X) where
-    -- the divisor of term k + 1 is at most 9 · 2 · 19
-    pub little : 2 * (k + 1) * (2 * (k + 1) + 1) ≤ 65536
-    little =
-        let d : k ≤ 8 = omega arith in
-        omega (arith, mul-le-mul d d)
-
-    pub next-fits : TermFits term q (2 * (k + 1) * (2 * (k + 1) + 1))
-    next-fits =
+    pub next-fits : (divisor : ℕ) → 1 ≤ divisor → divisor ≤ 65536 → TermFits term q divisor
+    next-fits divisor some little =
         rw (a .term-is, q-is)
         (record {
           term = omega (arith, term-small above k);
           square = omega (arith, square-small above);
-          divides = omega arith;
+          divides = some;
           little = little;
         })
 

@@ -1,4 +1,4 @@
 pub mod Answers
 pub mod CodeAdd
+pub mod Exact
 pub mod Limits
-pub mod Truth
