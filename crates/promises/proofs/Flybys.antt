@@ -2,7 +2,7 @@
 use mathlib.Core.Path.{_≡_, refl, sym, ap, subst, _∙_}
 use mathlib.Core.Bool.{Bool, true, false, not}
 use mathlib.Core.Logic.{_⊎_, inl, inr, ⊎-elim, _↔_}
-use Prim.Native.Nat.{ℕ, suc, _+_, _-_, _*_, _≤_}
+use Prim.Native.Nat.{ℕ, suc, _+_, _-_, _*_, _≤_, _<_}
 use native.Mathlib.Omega.{arith}
 use native.Mathlib.Nat.{mul-le-mul, lt-of-not-le}
 use native.Mathlib.Decide.{decLe}
@@ -36,7 +36,7 @@ use Rattle.flyby.specs.Entry.{endRule}
 use Rattle.flyby.specs.Posed.{FlybyIn}
 use Rattle.flyby.proofs.Posed.{flyby-in}
 use Rattle.flyby.proofs.Answered.{accepted-says, declined-says, accepts, declines}
-use Rattle.flyby.proofs.Exact.{end-true, e-rises, apart, lower-run, upper-run, zero-lower, zero-upper, top-never}
+use Rattle.flyby.proofs.Exact.{end-true, e-rises, apart, lower-run, upper-run, zero-lower, zero-upper, not-both}
 use Rattle.flyby_enclosure.specs.Enclosure.{top-check, foundLower, foundUpper, enclosureRule}
 use Rattle.flyby_enclosure.proofs.Answers.{enclosures, code-zero, encloses}
 use Rattle.flyby_judge.specs.Judge.{Claim, testsOf, claimOf, claimChecks, judgeRule}
@@ -127,12 +127,13 @@ zero-is-upper m b w = (
   λ z. accepts true 0 m b (record { flyby = within-in m b w; top = omega arith }) (zero-upper m b .1 z),
 )
 
--- R88
-top-is-none : (m b : ℕ) → endRule true X-top m b ≡ flagged true → endRule false X-top m b ≡ flagged false
-top-is-none m b e =
-    let (a, t) = accepted-says true X-top m b e in
-    declines false X-top m b a (T-not (endAt false m b X-top) (top-never m b (a .flyby .least) t))
+one-side : (x m b : ℕ) → 0 < x → endRule true x m b ≡ flagged true → endRule false x m b ≡ flagged false
+one-side x m b h e =
+    let (a, t) = accepted-says true x m b e in
+    let least = a .flyby .least in
+    declines false x m b a (not-both m b x (omega arith) h t)
 
+-- R88
 fifteen : (m b : ℕ) → enclosureRule m b .code ≡ 15 ↔ endRule true X-top m b ≡ flagged false
 unfolding enclosureRule
 fifteen m b =
@@ -229,8 +230,9 @@ flybys =
       lower-run = lowers;
       upper-run = uppers;
       zero-lower = λ m b w. accepts false 0 m b (record { flyby = within-in m b w; top = omega arith }) (zero-lower m b);
-      top-never = top-is-none;
+      top-never = λ m b. one-side X-top m b (omega arith);
       zero-upper = zero-is-upper;
+      one-side = one-side;
       fifteen = fifteen;
       all-lower = all-lower;
       all-upper = all-upper;

@@ -89,6 +89,8 @@ pub record Flybys : Type 0 where
   pub top-never : (m b : ℕ) → endRule true X-top m b ≡ flagged true → endRule false X-top m b ≡ flagged false
   -- R87: 0 is an upper end where M is 0, and only there
   pub zero-upper : (m b : ℕ) → Within m b → endRule true 0 m b ≡ flagged true ↔ m ≡ 0
+  -- R87: and at no other X are both ends accepted
+  pub one-side : (x m b : ℕ) → 0 < x → endRule true x m b ≡ flagged true → endRule false x m b ≡ flagged false
   -- R88: code 15 is given exactly where the top is no upper end
   pub fifteen : (m b : ℕ) → enclosureRule m b .code ≡ number no-flyby-end ↔ endRule true X-top m b ≡ flagged false
   -- R88: an enclosure has every accepted end: the lower ones are those up to its lower end, the upper ones those from its upper end
