@@ -1,10 +1,8 @@
--- R85: the products of an end test: 2^28 (X + M) is at most 720,575,940,111,269,888 and B high at most 1,045,371,346,659,311,616,
--- which is below 2^60. Assumes nothing.
+-- R85: the products of an end test: B low and B high are at most 1,045,371,346,659,311,616, which is below 2^60. Assumes nothing.
 use mathlib.Core.Path.{_≡_}
-use Prim.Native.Nat.{ℕ, _+_, _*_, _≤_}
+use Prim.Native.Nat.{ℕ, _*_, _≤_}
 use native.Mathlib.Omega.{arith}
 use native.Mathlib.Nat.{mul-le-mul}
-use Rattle.grid.specs.Grid.{one}
 use Rattle.grid.specs.Flyby.{X-top}
 use Rattle.sinh.specs.Sinh.{low, high}
 use Rattle.sinh.proofs.Limits.{low-small, high-small}
@@ -12,9 +10,6 @@ use Rattle.flyby.specs.Posed.{FlybyIn}
 use Rattle.flyby.specs.declared.Flyby.{Flyby}
 
 module _ {f : Flyby} (i : FlybyIn f) {X : ℕ} (h : X ≤ X-top) where
-  pub level-product : one * (X + f .mean) ≤ 720575940111269888
-  level-product = let m = i .mean in omega arith
-
   pub low-product : {n : ℕ} → n ≡ low X → f .shape * n ≤ 1045371346659311616
   low-product {n} e = let s : n ≤ 973577934 = omega (arith, low-small X h) in mul-le-mul (i .shape) s
 

@@ -76,9 +76,9 @@ pub record Flybys : Type 0 where
   pub nothing : sinhRule 0 ≡ record { code = number done; lo = pos 0; hi = pos 0 }
   pub below : (X : ℕ) → 0 < X → low X < high X
   pub most : (X : ℕ) → X ≤ X-top → high X ≤ 973577934
-  -- R85: so no product of an end test reaches 2^60
-  pub level : (m X : ℕ) → m ≤ M-top → X ≤ X-top → one * (X + m) < 2 ^ 60
-  pub product : (b X : ℕ) → b ≤ B-top → X ≤ X-top → b * high X < 2 ^ 60
+  -- R85: so no product of an end test reaches 2^60, which is 1152921504606846976
+  pub level : (m X : ℕ) → m ≤ M-top → X ≤ X-top → one * (X + m) ≤ 720575940110843904
+  pub product : (b X : ℕ) → b ≤ B-top → X ≤ X-top → b * high X ≤ 1045371346659311616
   -- R86: e S(x) - x rises with x, for e from 1 up
   pub rises : (b Y X : ℕ) → one ≤ b → Y < X → one * denS * X + b * S Y < one * denS * Y + b * S X
   -- R86: accepted ends are unbroken runs
