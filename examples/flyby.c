@@ -75,7 +75,7 @@ static int print_line(const struct flyby *f, const struct solver *s,
         fprintf(stderr, "enclose: %s\n", stripeawn_name(root.code));
         return 0;
     }
-    printf("%.8f  %9lu  %4lu  %-11s  %5d  %11.1f  %8.3f  %-9s  %ld to %ld\n",
+    printf("%.8f  %9lu  %4lu  %-11s  %5d  %9.0f  %8.3f  %-9s  %ld to %ld\n",
            s->e, (unsigned long)f->m, (unsigned long)f->n, end, s->steps,
            s->x * STRIPEAWN_RADIAN, fabs(s->residual) * STRIPEAWN_RADIAN,
            stripeawn_name(verdict), (long)root.lower, (long)root.upper);
@@ -109,7 +109,7 @@ int main(void)
     int i;
 
     printf("In units of 2^-28 radian:\n"
-           "         e          M     n  stopped by   steps            X  "
+           "         e          M     n  stopped by   steps          X  "
            "residual  verdict    the root is in\n");
     for (i = 0; i < FLYBYS; i++)
         if (!run(&flybys[i]))
