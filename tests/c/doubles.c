@@ -9,6 +9,7 @@
 #include <math.h>
 
 #include "check.h"
+#include "nans.h"
 
 /* Every entry answers with this code and zeros beside it. */
 static void refused(struct place at, double m, double e, uint32_t code)
@@ -73,15 +74,10 @@ static void test_limits(void)
 /* Quiet and signalling, of both signs: a code, and never taken for 0. */
 static void test_nans(void)
 {
-    static const uint64_t payloads[] = {
-        UINT64_C(0x0000000000000001), UINT64_C(0x0007FFFFFFFFFFFF),
-        UINT64_C(0x0008000000000000), UINT64_C(0x000FFFFFFFFFFFFF),
-    };
     size_t i;
 
-    for (i = 0; i < 2 * COUNT(payloads); i++) {
-        uint64_t sign = i % 2 ? SIGN : 0;
-        double nan = from_bits(sign | INFINITE | payloads[i / 2]);
+    for (i = 0; i < NANS; i++) {
+        double nan = nan_of(i);
 
         refused(HERE, nan, 0.0, 1);
         refused(HERE, nan, 1.0, 1);

@@ -6,6 +6,7 @@
 ** one. Each estimate has its mirror judged too, against M below 0.
 */
 #include "check.h"
+#include "nans.h"
 
 /* Whole estimate: within 0 units of f and of nothing else. */
 static void whole(struct place at, double estimate, int32_t f)
@@ -149,20 +150,12 @@ static void test_opposing(void)
     refused(HERE, from_bits(SIGN | INFINITE));
 }
 
-/* Quiet and signalling, with and without payload, of both signs. */
 static void test_nans(void)
 {
-    static const uint64_t payloads[] = {
-        UINT64_C(0x0000000000000001), UINT64_C(0x0007FFFFFFFFFFFF),
-        UINT64_C(0x0008000000000000), UINT64_C(0x0008000000000001),
-        UINT64_C(0x000C000012345678), UINT64_C(0x000FFFFFFFFFFFFF),
-    };
     size_t i;
 
-    for (i = 0; i < COUNT(payloads); i++) {
-        refused(HERE, from_bits(INFINITE | payloads[i]));
-        refused(HERE, from_bits(SIGN | INFINITE | payloads[i]));
-    }
+    for (i = 0; i < NANS; i++)
+        refused(HERE, nan_of(i));
 }
 
 void test_estimates(void)

@@ -8,6 +8,7 @@
 #include <math.h>
 
 #include "flyby.h"
+#include "nans.h"
 
 /* Both sides of where the verdict turns: from Refuted on, to Confirmed. */
 static void turns(struct place at, struct flyby g, double estimate,
@@ -141,20 +142,12 @@ static void test_below_zero(void)
     refused(HERE, from_bits(SIGN | INFINITE));
 }
 
-/* Quiet and signalling, with and without payload, of both signs. */
 static void test_nans(void)
 {
-    static const uint64_t payloads[] = {
-        UINT64_C(0x0000000000000001), UINT64_C(0x0007FFFFFFFFFFFF),
-        UINT64_C(0x0008000000000000), UINT64_C(0x0008000000000001),
-        UINT64_C(0x000C000012345678), UINT64_C(0x000FFFFFFFFFFFFF),
-    };
     size_t i;
 
-    for (i = 0; i < COUNT(payloads); i++) {
-        refused(HERE, from_bits(INFINITE | payloads[i]));
-        refused(HERE, from_bits(SIGN | INFINITE | payloads[i]));
-    }
+    for (i = 0; i < NANS; i++)
+        refused(HERE, nan_of(i));
 }
 
 /* Doubles with all their digits, of every size from 2^-40 radian up. */
