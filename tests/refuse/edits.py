@@ -99,39 +99,44 @@ def functions(file, text):
     return found
 
 
-def checked_file(file):
-    """Only what a contract or a definition says may be edited: a proof that
-    no longer fits shows nothing."""
+def replacement(folder, file, old, new):
+    """Where a pair replaces what, in the unedited file. Only what a contract
+    or a definition says may be edited: a proof that no longer fits shows
+    nothing."""
     if file.startswith("proofs/"):
         raise BadEdit(f"it changes a proof, {file}")
     if not file.startswith(("src/", "specs/")) or ".." in Path(file).parts:
         raise BadEdit(f"{file or 'no file'} is no file of src/ or specs/")
-
-
-def replaced(file, text, old, new):
-    """The text with the one place of `old` replaced."""
+    if not (folder / file).is_file():
+        raise BadEdit(f"the crate has no {file}")
     if not old:
         raise BadEdit("a 'new:' line has no 'old:' text")
+    text = (folder / file).read_text()
     if text.count(old) != 1:
         raise BadEdit(f"an 'old:' text is in {file} {text.count(old)} times")
-    return text.replace(old, new)
+    return text.index(old), len(old), new
 
 
-def apply(edit, folder):
-    """Applies the edit to a copy of its crate."""
+def replacements(edit, folder):
+    """An edit's replacements, by file."""
     if not edit.pairs:
         raise BadEdit("it has no 'old:' and 'new:' pair")
-    before = {}
-    for file, old, new in edit.pairs:
-        checked_file(file)
-        path = folder / file
-        if not path.is_file():
-            raise BadEdit(f"the crate has no {file}")
-        text = path.read_text()
-        before.setdefault(file, text)
-        path.write_text(replaced(file, text, old, new))
-    if all((folder / file).read_text() == was for file, was in before.items()):
+    if all(old == new for _, old, new in edit.pairs):
         raise BadEdit("it changes nothing")
+    found = {}
+    for file, old, new in edit.pairs:
+        found.setdefault(file, []).append(replacement(folder, file, old, new))
+    return found
+
+
+def apply(folder, found):
+    """Makes replacements by file in a copy of the crate, the last first, so
+    that none moves another."""
+    for file, places in found.items():
+        text = (folder / file).read_text()
+        for at, length, new in sorted(places, reverse=True):
+            text = text[:at] + new + text[at + length:]
+        (folder / file).write_text(text)
 
 
 def functions_of(folder):

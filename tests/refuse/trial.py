@@ -9,6 +9,9 @@ from pathlib import Path
 import edits
 import prover
 
+UNPLACED = ("BAD EDIT: it has no 'at:' line, and changes no function's body "
+            "alone")
+
 
 @dataclass(frozen=True)
 class Answer:
@@ -44,6 +47,8 @@ def stands_in(place, function, refusal):
 def own_refusal(edit, function, outcome, alone):
     """The first refusal of an edit, or the fault. Alone it has to be the
     first of all."""
+    if not edit.at and not function:
+        return Answer(edit, fault=UNPLACED)
     if outcome.status == 0:
         return Answer(edit, fault="NOT REFUSED: it is still proved")
     if not outcome.refused:
@@ -84,20 +89,32 @@ def unedited(prove, crate):
     return f"unedited, {crate} is not proved from its modules alone:\n{tail}"
 
 
+def make(group, folder):
+    """Makes the edits of a group in a copy of their crate, each as in the
+    unedited one. The function of each, or the one that can't be made."""
+    changed, found = {}, {}
+    for edit in group:
+        changed[edit] = edits.body_of(edit, folder)
+        if not edit.at and not changed[edit]:
+            return changed, Answer(edit, fault=UNPLACED)
+        try:
+            for file, places in edits.replacements(edit, folder).items():
+                found.setdefault(file, []).extend(places)
+        except edits.BadEdit as fault:
+            return changed, Answer(edit, fault=f"BAD EDIT: {fault}")
+    edits.apply(folder, found)
+    return changed, None
+
+
 def attempt(prove, group, logs):
-    """Tries edits of one crate together: an answer for each."""
+    """Tries edits of one crate together: an answer for each, or for one that
+    can't be made."""
     crate = group[0].crate
     with room() as place:
         folder, incremental = prove.copy(crate, place)
-        changed = {edit: edits.body_of(edit, folder) for edit in group}
-        for edit in group:
-            try:
-                if not edit.at and not changed[edit]:
-                    raise edits.BadEdit("it has no 'at:' line, and changes no "
-                                        "function's body alone")
-                edits.apply(edit, folder)
-            except edits.BadEdit as fault:
-                return [Answer(edit, fault=f"BAD EDIT: {fault}")]
+        changed, bad = make(group, folder)
+        if bad:
+            return [bad]
         try:
             outcome = prove.check(crate, folder, incremental)
         except subprocess.TimeoutExpired:
