@@ -106,9 +106,17 @@ def make(group, folder):
     return changed, None
 
 
+def strays(changed, outcome):
+    """Whether edits of bodies alone are refused in a function that none of
+    them changes, so that the functions were not as apart as they should be."""
+    return all(changed.values()) and not all(
+        any(stands_in("", function, refusal) for function in changed.values())
+        for refusal in outcome.refusals)
+
+
 def attempt(prove, group, logs):
-    """Tries edits of one crate together: an answer for each, or for one that
-    can't be made."""
+    """Tries edits of one crate together: an answer for each, for one that
+    can't be made, or none where beside each other they show nothing."""
     crate = group[0].crate
     with room() as place:
         folder, incremental = prove.copy(crate, place)
@@ -124,6 +132,8 @@ def attempt(prove, group, logs):
         log = logs / f"{edit.name}.log"
         log.parent.mkdir(parents=True, exist_ok=True)
         log.write_text(outcome.text)
+    if len(group) > 1 and strays(changed, outcome):
+        return []
     return [own_refusal(edit, changed[edit], outcome, len(group) == 1)
             for edit in group]
 
