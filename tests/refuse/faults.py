@@ -19,7 +19,7 @@ MACHINE = os.uname().machine
 
 SOURCE = "src/lib.rt"
 FILES = {
-    "crates.txt": "one:\nlaws:\nwrong:\nbare:\nother:\n",
+    "crates.txt": "one:\nlaws:\nwrong:\nbare:\ncut:\nother:\n",
     "one/src/lib.rt": """\
 // Two numbers, of which the second is got from the first.
 ghost use mathlib.Core.Path.{_≡_};
@@ -50,6 +50,7 @@ pub seven-spec : {M : Type 1} → statement M
 seven-spec = tie.close (tie.spec returns)
 """,
     "bare/src/lib.rt": "pub fn one() -> u32 {\n    1\n}\n",
+    "cut/src/lib.rt": "pub fn three() -> u32 {\n    3\n}\n",
     "other/src/lib.rt": "pub fn two() -> u32 {\n    2\n}\n",
 }
 NUMBER = """\
@@ -124,6 +125,8 @@ EDITS = {
     "wrong/out_of_the_crate": (SOURCE, "src/../../one/src/lib.rt", "7", "8",
                               "no file of src/ or specs/"),
     "bare/two": ("", SOURCE, "1", "2", "bare is not proved from its modules"),
+    "cut/four": ("", SOURCE, "    3", "    4",
+                 "cut is not proved from its modules"),
     "other/three": ("", SOURCE, "2", "3",
                     "other is not proved from its modules"),
 }
@@ -182,8 +185,8 @@ def put_edit(root, name, words):
 
 
 def repository(root):
-    """Lays out the small repository, proves it, and spoils the modules of two
-    of its crates."""
+    """Lays out the small repository, proves it, and spoils the modules of
+    three of its crates: none is there, one is missing, they are another's."""
     for name, text in FILES.items():
         write(root / (name if name == "crates.txt" else f"crates/{name}"), text)
     for name, words in EDITS.items():
@@ -193,11 +196,12 @@ def repository(root):
     if done.returncode != 0:
         sys.exit(f"the small repository is not proved:\n{done.stdout}")
     modules = {name: root / f"target/rlib/{name}.rlib/toolchain/checked"
-               for name in ("bare", "other")}
+               for name in ("bare", "cut", "other")}
     shutil.rmtree(modules["other"])
     shutil.copytree(modules["bare"], modules["other"])
     shutil.rmtree(modules["bare"])
     modules["bare"].mkdir()
+    min(modules["cut"].glob("*Proof.oantt")).unlink()
 
 
 def refuse(root, kit):
