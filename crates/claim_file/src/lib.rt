@@ -1,4 +1,6 @@
 // The program that judges a file of claims: standard input to standard output.
+#![tactic(auto)]
+
 ghost use Rattle.std.specs.Prelude.{◌≡◌, length};
 ghost use Rattle.io.specs.Counts.{IsPrefixLen};
 ghost use Rattle.claim_file.specs.File.{output, output_in};

@@ -1,4 +1,6 @@
 // Claim records and the batch that judges them.
+#![tactic(auto)]
+
 ghost use Rattle.std.specs.Prelude.{◌≡◌, length};
 ghost use Rattle.claims.specs.Form.{FormIn, twenty};
 ghost use Rattle.claims.specs.Batch.{batch_rule, answers_after};

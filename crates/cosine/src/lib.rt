@@ -1,4 +1,6 @@
 // Cosine bounds in whole units: CosLo and CosHi of an angle at a depth.
+#![tactic(auto)]
+
 ghost use Rattle.std.specs.Prelude.{◌≡◌, suc};
 ghost use Rattle.grid.specs.Limits.{AngleIn, DepthIn};
 ghost use Rattle.series.specs.Walk.{biased_bounds, walk, Unfinished};

@@ -1,4 +1,6 @@
 // How far from the root of Kepler's equation an estimate certainly is: at least, and at most.
+#![tactic(auto)]
+
 ghost use Rattle.std.specs.Prelude.{◌≡◌, max};
 ghost use Rattle.orbit.specs.Given.{grid, doubles};
 ghost use Rattle.orbit.specs.Posed.{ByCell, CodedCellIn};

@@ -1,4 +1,6 @@
 // The enclosure of a problem's eccentric anomaly between two accepted ends, found by halving.
+#![tactic(auto)]
+
 ghost use Rattle.std.specs.Prelude.{◌≡◌, [], ◌∷◌};
 ghost use Rattle.grid.specs.Grid.{T_units};
 ghost use Rattle.grid.specs.Codes.{checked};

@@ -1,4 +1,6 @@
 // The two end tests: whether an angle is accepted as an end below or above the root.
+#![tactic(auto)]
+
 ghost use Rattle.std.specs.Prelude.{◌≡◌, ◌+◌, ◌*◌};
 ghost use Rattle.orbit.specs.Cell.{orbit_at};
 ghost use Rattle.orbit.specs.Given.{grid, doubles};

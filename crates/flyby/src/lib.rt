@@ -1,4 +1,6 @@
 // Flybys: the two end tests of the hyperbolic equation, e sinh X - X = M.
+#![tactic(auto)]
+
 ghost use Rattle.std.specs.Prelude.{◌≡◌};
 ghost use Rattle.flyby.specs.Ends.{end_at};
 ghost use Rattle.flyby.specs.Entry.{end_rule, lower_rule, upper_rule};

@@ -1,4 +1,6 @@
 // The enclosure of a flyby's root between two accepted ends, found by halving.
+#![tactic(auto)]
+
 ghost use Rattle.std.specs.Prelude.{◌≡◌, [], ◌∷◌};
 ghost use Rattle.grid.specs.Flyby.{X_top};
 ghost use Rattle.grid.specs.Codes.{checked};

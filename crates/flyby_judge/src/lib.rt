@@ -1,4 +1,6 @@
 // The judge of a claim about a flyby: does the hyperbolic equation have its root within N units of an estimate?
+#![tactic(auto)]
+
 ghost use Rattle.std.specs.Prelude.{◌≡◌};
 ghost use Rattle.judge.specs.Verdict.{confirmed_by, lower_above_by, upper_below_by, verdict_by};
 ghost use Rattle.flyby_judge.specs.Judge.{claim_of, judge_rule};

@@ -1,4 +1,6 @@
 // The grid on which the user's numbers stand, and the codes of what stands outside it.
+#![tactic(auto)]
+
 ghost use Rattle.std.specs.Prelude.{◌≡◌, ◌+◌, ◌-◌, min};
 ghost use Rattle.grid.specs.Make.{coded_angle, coded_signed, coded_eccentricity, coded_depth};
 

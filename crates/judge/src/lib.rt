@@ -1,4 +1,6 @@
 // The judge of a claim: does Kepler's equation have its root within N units of an estimate?
+#![tactic(auto)]
+
 ghost use Rattle.std.specs.Prelude.{◌≡◌};
 ghost use Rattle.orbit.specs.Given.{grid, doubles};
 ghost use Rattle.orbit.specs.Posed.{ByProblem, PosedIn};

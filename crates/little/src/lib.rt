@@ -1,4 +1,6 @@
 // Little-endian numbers at a place of a slice, and words in two's complement.
+#![tactic(auto)]
+
 ghost use Rattle.std.specs.Prelude.{◌≡◌, ◌+◌, ◌≤◌, length};
 ghost use Rattle.little.specs.LittleEndian.{little_endian, twos_complement};
 

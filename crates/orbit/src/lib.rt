@@ -1,4 +1,6 @@
 // A problem, posed once: M and the eccentricity as they are known, and the depth at which it is asked.
+#![tactic(auto)]
+
 ghost use Rattle.std.specs.Prelude.{◌≡◌, ◌≤◌, pos};
 ghost use Rattle.whole.specs.Room.{Roomy};
 ghost use Rattle.grid.specs.Grid.{T_units};

@@ -1,4 +1,6 @@
 // The proposal: where the rotations end, and the certificate that says how near the root is.
+#![tactic(auto)]
+
 ghost use Rattle.std.specs.Prelude.{◌≡◌, ◌^◌, ◌<◌};
 ghost use Rattle.orbit.specs.Given.{grid, doubles};
 ghost use Rattle.orbit.specs.Posed.{ByCell, CodedCellIn};

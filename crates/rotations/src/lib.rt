@@ -1,4 +1,6 @@
 // The shift-and-add rotations toward a root of Kepler's equation: the arctangent table, G and the fifty steps.
+#![tactic(auto)]
+
 ghost use Rattle.std.specs.Prelude.{◌≡◌, ◌<◌, ◌≤◌, pos};
 ghost use Rattle.whole.specs.Sign.{signed_by};
 ghost use Rattle.grid.specs.Grid.{one, H_units};

@@ -1,4 +1,6 @@
 // Bounds of an alternating series in whole units, and sine's: Lo and Hi of an angle at a depth.
+#![tactic(auto)]
+
 ghost use Rattle.std.specs.Prelude.{◌≡◌, suc, ◌*◌, ◌≤◌, max, min};
 ghost use Rattle.std.proofs.Math.IntN.{sub_ℕ};
 ghost use Rattle.grid.specs.Grid.{one, T_units};

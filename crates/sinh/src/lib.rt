@@ -1,4 +1,6 @@
 // The hyperbolic sine between two whole numbers: sine's terms, all of them added.
+#![tactic(auto)]
+
 ghost use Rattle.std.specs.Prelude.{◌≡◌, ◌*◌, ◌≤◌};
 ghost use Rattle.grid.specs.Grid.{one};
 ghost use Rattle.grid.specs.Flyby.{X_top};

@@ -1,4 +1,6 @@
 // One step of Newton or Halley in doubles, from an estimate of the root of Kepler's equation, and its judging.
+#![tactic(auto)]
+
 ghost use Rattle.std.specs.Prelude.{◌≡◌, cond, ◌*◌, ◌≤◌};
 ghost use Rattle.std.proofs.Math.IntN.{sub_ℕ};
 ghost use Rattle.grid.specs.Codes.{method_check};

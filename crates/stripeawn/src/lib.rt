@@ -1,4 +1,6 @@
 // The C library: every entry, thin over the crate that has its rule. include/stripeawn.h documents them for C.
+#![tactic(auto)]
+
 ghost use Rattle.std.specs.Prelude.{◌≡◌, length};
 ghost use Rattle.series.specs.Entry.{sine_rule};
 ghost use Rattle.cosine.specs.Cosine.{cosine_rule};

@@ -1,4 +1,6 @@
 // From a double to whole units of 2^-28: the floor and the ceiling.
+#![tactic(auto)]
+
 ghost use Rattle.std.specs.Prelude.{◌≡◌};
 ghost use Rattle.units.specs.Units.{mirror_double, coded_units};
 

@@ -1,4 +1,6 @@
 // The sign and the size of a whole number, beside the definitions and laws that every other crate cites.
+#![tactic(auto)]
+
 ghost use Rattle.std.specs.Prelude.{◌≡◌, nat_abs};
 ghost use Rattle.whole.specs.Sign.{signed_by, negative};
 ghost use Rattle.whole.specs.Room.{Roomy};
