@@ -54,14 +54,14 @@ unfolding bounds_rule
 replies s range x d {q} e =
     let said : Says (bounds_checks x d) q.code (q ≡ asked_with 0 x d) = (askings x d).says q e in
     let within : q.code ≡ 0 → AngleIn (record { units = x }) × DepthIn (record { pairs = d }) =
-    λ z. let p = (askings x d).passed_by said.code-is z in (angle_in x p.1, depth_fits d p.0) in
+    λ z. let p = (askings x d).passed_by said.code_is z in (angle_in x p.1, depth_fits d p.0) in
     let found : q.code ≡ 0 → (b : Biased) → b ≡ biased_bounds s q.angle.units q.depth.pairs → b ≡ biased_bounds s x d =
     λ z b f. f ∙ ap (λ (a : Asked). biased_bounds s a.angle.units a.depth.pairs) (said.made z) in
     record {
-      refused = λ some. (bounded s x d).refused_by said.code-is some _ refl;
+      refused = λ some. (bounded s x d).refused_by said.code_is some _ refl;
       limits = λ z. rw (said.made z) (within z);
       small = λ z b f. subst Small (sym (found z b f)) (small_bounds s x d (range x (within z).0.top) (within z).1.few);
       given = λ z b f.
-          (bounded s x d).given_by said.code-is z _
+          (bounded s x d).given_by said.code_is z _
           (ap unbiased_bounds (found z b f) ∙ read_back s x d (range x (within z).0.top) (within z).1.few);
     }

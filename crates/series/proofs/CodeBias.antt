@@ -1,6 +1,6 @@
 -- Biased numbers: order and choice of signed numbers within 2^34 are those of the naturals that they are biased to.
 -- Assumes nothing.
-use mathlib.Core.Path.{◌≡◌, sym, ap, subst, ◌∙◌}
+use mathlib.Core.Path.{◌≡◌, sym, subst, ◌∙◌}
 use Prim.Native.Nat.{ℕ, suc, ◌+◌, ◌-◌, ◌*◌, ◌≤◌, max, min}
 use native.Mathlib.Omega.{arith}
 use lib.Dec.{ltb}

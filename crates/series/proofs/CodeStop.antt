@@ -5,7 +5,6 @@ use Prim.Native.Nat.{ℕ, suc, ◌*◌, ◌≤◌}
 use native.Mathlib.Omega.{arith}
 use lib.Dec.{eqb, leb, leb→le, eqb→eq}
 use lib.IntN.{ℤ}
-use borrow.Author.Tests.{leb-true}
 use Rattle.whole.proofs.Bools.{passed, both_parts}
 use Rattle.grid.specs.Grid.{depths}
 use Rattle.series.specs.Terms.{Series, l, u}
@@ -29,8 +28,8 @@ module _ (s : Series) {w : Walk} {X n d : ℕ} where
       ∙ sym (ap₂ (λ (low high : ℤ). record { lo = biased low; hi = biased high }) (low_stays h some d k) (high_stays h some d k))
 
 -- sine's are, up to an angle
-pub spent_by : {X : ℕ} {n : ℕ} → leb X (last_spent (suc n)) ≡ true → suc n ≤ depths → Spent sine X (suc n)
-spent_by {X} {n} t few = (spent_angles X (suc n) (omega arith) few).1 (leb-true X (last_spent (suc n)) t)
+pub spent_by : {X : ℕ} (n : ℕ) → X ≤ last_spent (suc n) → suc n ≤ depths → Spent sine X (suc n)
+spent_by {X} n least few = (spent_angles X (suc n) (omega arith) few).1 least
 
 -- a walk's test of its last term
 pub spent_walk : (s : Series) (w : Walk) (X n : ℕ) → w ≡ walk s X n → spent_at w ≡ true → Spent s X n

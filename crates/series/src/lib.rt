@@ -110,6 +110,7 @@ fn lesser(a: u64, b: u64) -> u64
 }
 
 // One pair of terms further, with the divisors of the odd-numbered and the even-numbered one.
+#[tactic(auto, unfolding(crate::specs::Walk::deepened))]
 pub fn deepen(w: Walk, odd: u64, even: u64) -> Walk
     requires { PairFits w odd even }
     ensures { result ≡ deepened w odd even }
