@@ -15,7 +15,7 @@ use orbit::{CodedProblem, Problem, Span};
 use series::Walk;
 
 // What no depth changes in the test of one M and one A: A, 2^28 M, and 2^28 X + A 2^34, so that no number is below 0.
-#[derive(Drop)]
+#[derive(Clone, Copy)]
 struct Corner {
     shape: u64,
     mean: u64,
