@@ -9,7 +9,7 @@ ghost use Rattle.rotations.specs.Rotate.{shifted, shift_of, turned, plus_at, sta
 ghost use Rattle.rotations.specs.Room.{Shiftable, Turnable, Signable};
 
 // E, and x and y: e times the cosine and the sine of E. All are in units.
-#[derive(Drop)]
+#[derive(Clone, Copy)]
 pub struct State {
     pub angle: i64,
     pub cosine: i64,
@@ -51,6 +51,7 @@ const G: u64 = 98_987_219;
 // Two with each shift.
 const ROTATIONS: u32 = 50;
 
+#[tactic(auto, unfolding(crate::specs::Table::table, crate::specs::Table::entry))]
 fn entry(k: u32) -> i64
     requires { k < entries }
     ensures { result ≡ pos (entry k) }
@@ -65,6 +66,7 @@ fn shift_of(i: u32) -> u32
 }
 
 // R36: what the cosine loses of the sine, and the sine gains of the cosine: the shift rounds down, and the sign comes after it.
+#[tactic(auto, unfolding(crate::specs::Rotate::shifted))]
 fn part(z: i64, k: u32, plus: bool) -> i64
     requires { Shiftable z k }
     ensures { result ≡ signed_by plus (shifted k z) }
@@ -73,6 +75,7 @@ fn part(z: i64, k: u32, plus: bool) -> i64
 }
 
 // One rotation by the angle of entry k, with its sign given.
+#[tactic(auto, using(crate::proofs::CodeSize::roomy_entry))]
 fn turn(s: State, k: u32, plus: bool) -> State
     requires { Turnable s k }
     ensures { result ≡ turned s k plus }
@@ -89,6 +92,7 @@ fn turn(s: State, k: u32, plus: bool) -> State
 }
 
 // R36: the sign of the next rotation, true for plus.
+#[tactic(auto, unfolding(crate::specs::Rotate::plus_at))]
 fn sign(s: State, m: u64) -> bool
     requires { Signable s m }
     ensures { result ≡ plus_at m s }
@@ -97,6 +101,7 @@ fn sign(s: State, m: u64) -> bool
 }
 
 // R35: the state before the first rotation.
+#[tactic(auto, unfolding(crate::specs::Rotate::start, crate::specs::Table::G))]
 fn start(a: u64) -> State
     requires { a ≤ one }
     ensures { result ≡ start a }
