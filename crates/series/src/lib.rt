@@ -41,7 +41,7 @@ pub struct Asked {
 }
 
 // The walk through the terms of a series at an angle, after `pairs` pairs of them.
-#[derive(Drop)]
+#[derive(Clone, Copy)]
 pub struct Walk {
     pub angle: u64,
     pub pairs: u64,
