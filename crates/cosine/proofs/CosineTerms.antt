@@ -1,11 +1,11 @@
 -- Cosine's terms for the angles tested: what differs from sine's are term 0 and the divisors. Assumes nothing.
 use mathlib.Core.Path.{◌≡◌}
-use Prim.Native.Nat.{ℕ, suc, ◌+◌, ◌-◌, ◌*◌, ◌≤◌, ◌<◌}
+use Prim.Native.Nat.{ℕ, suc, ◌+◌, ◌-◌, ◌*◌, ◌≤◌}
 use native.Mathlib.Omega.{arith}
-use native.Mathlib.Nat.{le_trans, mul-le-mul, mul-le-mul_left, mul-pos}
-use Rattle.grid.specs.Grid.{one, T_units, depths}
-use Rattle.series.specs.Terms.{Q-, Q+, l, u}
-use Rattle.series.proofs.TermLimits.{Divides, Q_within, l-le-u, at_T, terms_within}
+use native.Mathlib.Nat.{le_trans, mul-le-mul}
+use Rattle.grid.specs.Grid.{one, T_units}
+use Rattle.series.specs.Terms.{l, u}
+use Rattle.series.proofs.TermLimits.{Divides, l-le-u, at_T, terms_within}
 use Rattle.series.proofs.CodeRange.{InRange, in_range}
 use Rattle.series.proofs.Falling.{TermsFall, fall_by, square_within}
 use Rattle.cosine.specs.Cosine.{cosine}

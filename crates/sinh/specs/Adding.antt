@@ -1,9 +1,9 @@
 -- How the code adds the terms up, of either kind. No entry's contract cites this file.
-use Rattle.std.specs.Prelude.{Bool, true, false, ℕ, ◌≤◌}
+use Rattle.std.specs.Prelude.{Bool, true, false, ℕ}
 use Rattle.whole.specs.Round.{down, up}
 use Rattle.series.specs.Terms.{Q-, Q+, l, u}
 use Rattle.series.specs.Sine.{sine}
-use Rattle.sinh.specs.Sinh.{last, total}
+use Rattle.sinh.specs.Sinh.{total}
 use Rattle.sinh.specs.declared.Added.{Added}
 
 -- `true` for what is rounded up
