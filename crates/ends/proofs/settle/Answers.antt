@@ -1,13 +1,13 @@
 -- `ends::settle` meets its contract: the walk goes on until a depth accepts, which is then the least, rules every depth out, is the
 -- one asked for, or has spent terms.
-use Rattle.std.proofs.Common.{◌≡◌, ℕ, suc, ◌-◌, ◌<◌, ◌≤◌, Bool, true, false, not, T, sym, ap, ap₂, ◌∙◌, arith, rules}
+use Rattle.std.proofs.Common.{◌≡◌, ℕ, suc, ◌<◌, ◌≤◌, Bool, true, false, not, T, sym, ap, ap₂, ◌∙◌, arith}
 use Rattle.grid.specs.Grid.{depths}
 use Rattle.grid.specs.declared.Angle.{Angle}
 use Rattle.grid.specs.declared.Depth.{Depth}
 use Rattle.series.specs.Sine.{sine}
-use Rattle.series.specs.Walk.{walk}
+use Rattle.series.specs.Walk.{walk, spent_at}
 use Rattle.series.specs.declared.Walk.{Walk}
-use Rattle.series.proofs.CodeWalk.{begins, unfinished, onward, own_pairs}
+use Rattle.series.proofs.CodeWalk.{begins, onward, own_pairs}
 use Rattle.orbit.specs.Cell.{orbit_at}
 use Rattle.orbit.specs.declared.Span.{Span}
 use Rattle.ends.specs.Ends.{end_at}
@@ -49,10 +49,10 @@ module _ {m : ℕ} {a : Span} {depth : Depth} {x : Angle} (upper : Bool) (s : Se
   -- no lesser depth accepts
   before : (1 ≤ w.pairs → (at_depth upper least most w).accepts ≡ false)
       → (l : ℕ) → 1 ≤ l → l ≤ w.pairs → T (not (end_at upper (one_mean m a) l x.units))
-  before open =
+  before none_yet =
       let f = few in
       none_before x.units s.angle.top w.pairs (omega arith) w reached m a upper
-      (λ h. sym (ap (λ (t : AtDepth). t.accepts) (at_corners w)) ∙ open h)
+      (λ h. sym (ap (λ (t : AtDepth). t.accepts) (at_corners w)) ∙ none_yet h)
 
   module _ (now : AtDepth) (says : now ≡ at_depth upper least most v) where
     corners_say : now ≡ at_depth upper (corner_of (orbit_at m a.down) x.units) (corner_of (orbit_at m a.up) x.units) v
@@ -60,10 +60,10 @@ module _ {m : ℕ} {a : Span} {depth : Depth} {x : Angle} (upper : Bool) (s : Se
 
     accepts : (1 ≤ w.pairs → (at_depth upper least most w).accepts ≡ false) → now.accepts ≡ true
         → v.pairs ≡ least_depth (λ d. end_at upper (one_mean m a) d x.units) depth.pairs
-    accepts open t =
+    accepts none_yet t =
         pairs_is
         ∙ sym (reports x.units s.angle.top v _ next few m a upper
-        (sym (ap (λ (r : AtDepth). r.accepts) corners_say) ∙ t) (before open) depth.pairs (omega arith))
+        (sym (ap (λ (r : AtDepth). r.accepts) corners_say) ∙ t) (before none_yet) depth.pairs (omega arith))
 
     rules_out : now.settles ≡ true → now.accepts ≡ false
         → 0 ≡ least_depth (λ d. end_at upper (one_mean m a) d x.units) depth.pairs
@@ -76,6 +76,22 @@ module _ {m : ℕ} {a : Span} {depth : Depth} {x : Angle} (upper : Bool) (s : Se
     -- what wasn't settled wasn't accepted
     unsettled : now.settles ≡ false → (at_depth upper least most v).accepts ≡ false
     unsettled f = now_unsettled upper least most v (sym (ap (λ (r : AtDepth). r.settles) says) ∙ f)
+
+    open_at : now.settles ≡ false
+        → (at_depth upper (corner_of (orbit_at m a.down) x.units) (corner_of (orbit_at m a.up) x.units) v).accepts ≡ false
+    open_at f = sym (ap (λ (r : AtDepth). r.accepts) (at_corners v)) ∙ unsettled f
+
+    last_refuses : now.settles ≡ false → v.pairs ≡ depth.pairs
+        → 0 ≡ least_depth (λ d. end_at upper (one_mean m a) d x.units) depth.pairs
+    last_refuses f t =
+        sym (none _ depth.pairs
+        (refused_last x.units s.angle.top v _ next few m a upper (open_at f) depth.pairs (sym pairs_is ∙ t)))
+
+    spent_refuses : now.settles ≡ false → spent_at v ≡ true
+        → 0 ≡ least_depth (λ d. end_at upper (one_mean m a) d x.units) depth.pairs
+    spent_refuses f t =
+        sym (none _ depth.pairs
+        (refused_spent x.units s.angle.top v _ next few m a upper (open_at f) t depth.pairs (omega arith)))
 
 pub loop-least-init : goal.loop-least-init
 loop-least-init c =
@@ -101,4 +117,14 @@ returns-else-now-2 c =
     c.if-now.true c.if-now-2.false
 
 pub returns-then-w-pairs : goal.returns-then-w-pairs
-returns-then-w-pairs c = ?
+returns-then-w-pairs c =
+    let l = c.loop-least.invariant in
+    let f = c.if-now.false in
+    elim c.then-w-pairs.branch [
+      | then-w-pairs-via-then-w-pairs w ↦
+          last_refuses c.args.upper c.requires c.corner_at-least.ensures c.corner_at-most.ensures l.0 l.1 c.further-w.ensures
+          _ c.at_depth-now.ensures f w.if-w-pairs.true
+      | then-w-pairs-via-else-w-pairs+then-spent w ↦
+          spent_refuses c.args.upper c.requires c.corner_at-least.ensures c.corner_at-most.ensures l.0 l.1 c.further-w.ensures
+          _ c.at_depth-now.ensures f (sym w.spent.ensures ∙ w.if-spent.true)
+    ]
