@@ -6,7 +6,7 @@ ghost use Rattle.cosine.specs.Lows.{lows_at};
 use grid::Angle;
 
 // Both, biased as the series' bounds are.
-#[derive(Drop)]
+#[derive(Clone, Copy)]
 pub struct Lows {
     pub sine: u64,
     pub cosine: u64,

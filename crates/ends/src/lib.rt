@@ -54,7 +54,7 @@ fn by_bound(c: Corner, bound: u64, upper: bool) -> bool
 }
 
 // What one depth says of an end: whether both corners accept it, and whether that settles every greater depth's test too.
-#[derive(Drop)]
+#[derive(Clone, Copy)]
 struct AtDepth {
     settles: bool,
     accepts: bool,
@@ -162,7 +162,7 @@ pub fn upper(p: Problem, x: Angle) -> bool
 
 // What a public end test answers: accepted is 1 or 0.
 #[repr(C)]
-#[derive(Drop)]
+#[derive(Clone, Copy)]
 pub struct End {
     pub code: u32,
     pub accepted: u32,

@@ -7,13 +7,13 @@ ghost use Rattle.grid.specs.Make.{coded_angle, coded_signed, coded_eccentricity,
 pub mod codes;
 
 // An angle of 0 to T units; one unit is 2^-28 radian.
-#[derive(Drop)]
+#[derive(Clone, Copy)]
 pub struct Angle {
     pub units: u64,
 }
 
 // A code, and with code 0 the angle.
-#[derive(Drop)]
+#[derive(Clone, Copy)]
 pub struct CodedAngle {
     pub code: u32,
     pub angle: Angle,
@@ -64,13 +64,13 @@ impl Angle {
 }
 
 // An eccentricity of A / 2^28, with A from 0 to 2^28.
-#[derive(Drop)]
+#[derive(Clone, Copy)]
 pub struct Eccentricity {
     pub units: u64,
 }
 
 // A code, and with code 0 the eccentricity.
-#[derive(Drop)]
+#[derive(Clone, Copy)]
 pub struct CodedEccentricity {
     pub code: u32,
     pub eccentricity: Eccentricity,
@@ -100,13 +100,13 @@ impl Eccentricity {
 }
 
 // How many pairs of terms are used: 1 to 5.
-#[derive(Drop)]
+#[derive(Clone, Copy)]
 pub struct Depth {
     pub pairs: u32,
 }
 
 // A code, and with code 0 the depth.
-#[derive(Drop)]
+#[derive(Clone, Copy)]
 pub struct CodedDepth {
     pub code: u32,
     pub depth: Depth,

@@ -15,7 +15,7 @@ use grid::{Angle, Depth, codes};
 use orbit::{CodedProblem, Problem};
 use units::Units;
 
-#[derive(Drop)]
+#[derive(Clone, Copy)]
 pub enum Verdict {
     Confirmed,
     Refuted,
@@ -24,7 +24,7 @@ pub enum Verdict {
 
 // A code, and with code 0 the verdict's number: 16, 17 or 18.
 #[repr(C)]
-#[derive(Drop)]
+#[derive(Clone, Copy)]
 pub struct Judged {
     pub code: u32,
     pub verdict: u32,
@@ -32,7 +32,7 @@ pub struct Judged {
 
 // A code, and with code 0 the verdict's number and the least depth that gives it: 1 to 5, and 5 where no depth decides.
 #[repr(C)]
-#[derive(Drop)]
+#[derive(Clone, Copy)]
 pub struct Settled {
     pub code: u32,
     pub verdict: u32,
@@ -53,7 +53,7 @@ pub fn number_of(v: Verdict) -> u32
 }
 
 // A claim whose numbers are all within their limits.
-#[derive(Drop)]
+#[derive(Clone, Copy)]
 pub struct Case {
     pub problem: Problem,
     pub units: Units,
@@ -118,7 +118,7 @@ fn upper_below(k: Case) -> u64
 }
 
 // A verdict, and the least depth that gives it.
-#[derive(Drop)]
+#[derive(Clone, Copy)]
 struct Decision {
     verdict: Verdict,
     depth: u64,

@@ -36,7 +36,7 @@ pub fn mirror_end(upper: bool, mirrored: bool) -> bool
 }
 
 // Where a number lies, rounded down and rounded up to whole units: on the grid both are the number itself.
-#[derive(Drop)]
+#[derive(Clone, Copy)]
 pub struct Span {
     pub down: u64,
     pub up: u64,
@@ -54,14 +54,14 @@ impl Span {
 }
 
 // M, and A of the eccentricity A / 2^28.
-#[derive(Drop)]
+#[derive(Clone, Copy)]
 pub struct Cell {
     pub m: Span,
     pub a: Span,
 }
 
 // A code, and with code 0 the cell: that of -M where it is mirrored.
-#[derive(Drop)]
+#[derive(Clone, Copy)]
 pub struct CodedCell {
     pub code: u32,
     pub mirrored: bool,
@@ -141,14 +141,14 @@ impl Cell {
 }
 
 // A cell and a depth: what end tests, searches and the judge are asked about.
-#[derive(Drop)]
+#[derive(Clone, Copy)]
 pub struct Problem {
     pub cell: Cell,
     pub depth: Depth,
 }
 
 // A code, and with code 0 the problem: that of -M where it is mirrored.
-#[derive(Drop)]
+#[derive(Clone, Copy)]
 pub struct CodedProblem {
     pub code: u32,
     pub mirrored: bool,

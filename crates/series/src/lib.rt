@@ -17,7 +17,7 @@ use grid::{Angle, Depth, codes};
 pub const BIAS: u64 = 17_179_869_184;
 
 // Lo and Hi, biased.
-#[derive(Drop)]
+#[derive(Clone, Copy)]
 pub struct Biased {
     pub lo: u64,
     pub hi: u64,
@@ -25,7 +25,7 @@ pub struct Biased {
 
 // What an entry answers.
 #[repr(C)]
-#[derive(Drop)]
+#[derive(Clone, Copy)]
 pub struct Bounds {
     pub code: u32,
     pub lo: i64,
@@ -33,7 +33,7 @@ pub struct Bounds {
 }
 
 // A code, and with code 0 the angle and the depth that are asked about.
-#[derive(Drop)]
+#[derive(Clone, Copy)]
 pub struct Asked {
     pub code: u32,
     pub angle: Angle,

@@ -16,7 +16,7 @@ use series::Bounds;
 const LAST: u64 = 9;
 
 // The last term that was added, and the sum up to it.
-#[derive(Drop)]
+#[derive(Clone, Copy)]
 struct Added {
     term: u64,
     sum: u64,

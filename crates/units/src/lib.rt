@@ -7,14 +7,14 @@ ghost use Rattle.units.specs.Units.{mirror_double, coded_units};
 use grid::{Eccentricity, codes};
 
 // A double in units, rounded down and rounded up.
-#[derive(Drop)]
+#[derive(Clone, Copy)]
 pub struct Units {
     pub floor: u64,
     pub ceiling: u64,
 }
 
 // A code, and with code 0 the units.
-#[derive(Drop)]
+#[derive(Clone, Copy)]
 pub struct CodedUnits {
     pub code: u32,
     pub units: Units,
