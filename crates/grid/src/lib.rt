@@ -100,7 +100,7 @@ impl Eccentricity {
 }
 
 // How many pairs of terms are used: 1 to 5.
-#[derive(Drop)]
+#[derive(Clone, Copy)]
 pub struct Depth {
     pub pairs: u32,
 }

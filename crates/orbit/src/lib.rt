@@ -36,7 +36,7 @@ pub fn mirror_end(upper: bool, mirrored: bool) -> bool
 }
 
 // Where a number lies, rounded down and rounded up to whole units: on the grid both are the number itself.
-#[derive(Drop)]
+#[derive(Clone, Copy)]
 pub struct Span {
     pub down: u64,
     pub up: u64,
@@ -54,7 +54,7 @@ impl Span {
 }
 
 // M, and A of the eccentricity A / 2^28.
-#[derive(Drop)]
+#[derive(Clone, Copy)]
 pub struct Cell {
     pub m: Span,
     pub a: Span,
@@ -141,7 +141,7 @@ impl Cell {
 }
 
 // A cell and a depth: what end tests, searches and the judge are asked about.
-#[derive(Drop)]
+#[derive(Clone, Copy)]
 pub struct Problem {
     pub cell: Cell,
     pub depth: Depth,
