@@ -9,7 +9,7 @@ use native.Mathlib.Decide.{dec_le}
 use lib.Dec.{T, leb→le, le→leb, not_T}
 use Rattle.grid.specs.Grid.{one}
 use Rattle.grid.specs.Flyby.{X_top}
-use Rattle.sinh.specs.Sinh.{low, high, S, t9, den_s}
+use Rattle.sinh.specs.Sinh.{low, high, S, den_s}
 use Rattle.sinh.proofs.Limits.{high_zero, low-zero, low-lt-high, low_steep, high_steep}
 use Rattle.sinh.proofs.Exact.{low-true, high-true, rises}
 use Rattle.flyby.specs.Ends.{end_at, Meets}

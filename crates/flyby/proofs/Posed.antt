@@ -1,9 +1,8 @@
 -- What the checked constructor answers, and what is known of a flyby whose checks pass. Assumes nothing.
-use mathlib.Core.Path.{◌≡◌, refl}
-use mathlib.Core.Bool.{false}
-use Prim.Native.Nat.{ℕ, ◌≤◌}
+use mathlib.Core.Path.{refl}
+use Prim.Native.Nat.{ℕ}
 use Rattle.grid.specs.Grid.{one}
-use Rattle.grid.specs.Codes.{Passed, bad_m, bad_a, span_check}
+use Rattle.grid.specs.Codes.{Passed, bad_m, bad_a}
 use Rattle.grid.specs.Flyby.{M_top, B_top, flyby_checks}
 use Rattle.grid.proofs.Fits.{limit_fits, span_fits}
 use Rattle.grid.proofs.Refuses.{Makes, makes}

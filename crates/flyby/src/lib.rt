@@ -10,7 +10,7 @@ use ends::End;
 use grid::codes;
 
 // M, and B of the eccentricity B / 2^28.
-#[derive(Drop)]
+#[derive(Clone, Copy)]
 pub struct Flyby {
     pub mean: u64,
     pub shape: u64,

@@ -6,7 +6,6 @@ use Prim.Native.Nat.{ℕ, ◌≤◌}
 use native.Mathlib.Omega.{arith}
 use lib.Dec.{T, lit≤, lit<}
 use Rattle.whole.proofs.Bools.{not_failed}
-use Rattle.grid.specs.Grid.{T_units}
 use Rattle.grid.specs.Flyby.{X_top, flyby_checks}
 use Rattle.grid.proofs.FirstCode.{split}
 use Rattle.grid.proofs.Refuses.{Makes, makes}
