@@ -14,7 +14,7 @@ use units::Units;
 
 // A code, and with code 0 the least and the greatest distance from the root, in units.
 #[repr(C)]
-#[derive(Drop)]
+#[derive(Clone, Copy)]
 pub struct Off {
     pub code: u32,
     pub least: u32,

@@ -16,7 +16,7 @@ use orbit::{CodedProblem, Problem};
 
 // A code, and with code 0 the two ends, in units.
 #[repr(C)]
-#[derive(Drop)]
+#[derive(Clone, Copy)]
 pub struct Enclosure {
     pub code: u32,
     pub lower: i32,
@@ -24,14 +24,14 @@ pub struct Enclosure {
 }
 
 // The ends that the searches find, in units, of the problem as it is posed.
-#[derive(Drop)]
+#[derive(Clone, Copy)]
 pub struct Found {
     pub a: u32,
     pub b: u32,
 }
 
 // Where a search stands.
-#[derive(Drop)]
+#[derive(Clone, Copy)]
 pub struct Bracket {
     pub p: u32,
     pub q: u32,

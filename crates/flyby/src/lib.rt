@@ -17,7 +17,7 @@ pub struct Flyby {
 }
 
 // A code, and with code 0 the flyby.
-#[derive(Drop)]
+#[derive(Clone, Copy)]
 pub struct CodedFlyby {
     pub code: u32,
     pub flyby: Flyby,

@@ -12,7 +12,7 @@ use judge::{Judged, Verdict};
 use units::Units;
 
 // A claim whose numbers are all within their limits.
-#[derive(Drop)]
+#[derive(Clone, Copy)]
 pub struct Case {
     pub flyby: Flyby,
     pub units: Units,

@@ -14,7 +14,7 @@ use rotations::State;
 
 // The entry's answer. The angle is E; y is near e sin E, and x near e cos E.
 #[repr(C)]
-#[derive(Drop)]
+#[derive(Clone, Copy)]
 pub struct Proposal {
     pub code: u32,
     pub angle: i32,
