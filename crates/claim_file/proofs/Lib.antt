@@ -1,2 +1,3 @@
 pub mod Output
 pub mod CodeOutput
+pub mod CodeRead

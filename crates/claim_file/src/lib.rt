@@ -1,11 +1,13 @@
 // The program that judges a file of claims: standard input to standard output.
 #![tactic(auto)]
 
-ghost use Rattle.std.specs.Prelude.{◌≡◌, length};
-ghost use Rattle.io.specs.Counts.{IsPrefixLen};
+ghost use Rattle.std.specs.Prelude.{◌≡◌, ◌<◌, ◌≤◌, length, take, IfOk, OnOk, IfSome};
+ghost use Rattle.std.specs.Io.{ReadsAtMost};
+ghost use Rattle.std.specs.Io.KnownBytes.{Consumes, IsAtEnd, Appends};
 ghost use Rattle.claim_file.specs.File.{output, output_in};
 
-use libc::{STDIN_FILENO, STDOUT_FILENO};
+use std::io;
+use std::io::{Input, Print, Read, Write};
 
 // The longest input: its claims and its bytes.
 const MOST_CLAIMS: usize = 3_276;
@@ -16,7 +18,8 @@ const MOST_BYTES: usize = MOST_CLAIMS * claims::form::TWENTY.width;
 pub fn answer_file(input: &[u8], answers: &mut [u8; MOST_CLAIMS]) -> usize
     ensures value { result ≡ length (output input.now) }
     ensures answers_after { answers.new ≡ output_in input.now answers.old }
-    ensures prefix_len { IsPrefixLen result answers.new }
+    ensures within { result ≤ length answers.new }
+    ensures prefix_len { result ≡ length (take result answers.new) }
 {
     if input.len() > MOST_BYTES {
         return 0;
@@ -25,24 +28,44 @@ pub fn answer_file(input: &[u8], answers: &mut [u8; MOST_CLAIMS]) -> usize
     batch.count as usize
 }
 
-// True where a file has no more bytes, and none that can't be read.
-fn ended(fd: i32) -> bool {
-    let mut more = [0u8; 1];
-    libc::read(fd, &mut more) == 0
+// Reads until `input` is full or the reader has no more bytes, and returns how many stand at the start of `input`.
+fn read_full<R: Read>(reader: &mut R, input: &mut [u8]) -> io::Result<usize>
+    ensures within { ReadsAtMost result input.new }
+    ensures bytes { IfOk result (λ n. Consumes (R.remaining reader.old) (R.remaining reader.new) (take n input.new)) }
+    ensures end { IfOk result (λ n. n < length input.new → IsAtEnd (R.remaining reader.new)) }
+{
+    let mut done = 0;
+    while done < input.len() {
+        let n = reader.read(&mut input[done..])?;
+        if n == 0 {
+            break;
+        }
+        done += n;
+    }
+    Ok(done)
 }
 
-// Judges standard input. One byte more than the longest input is read, so that a longer one is noticed; then no more is
-// waited for. An input that can't be read to its end is not judged.
-pub fn run() {
-    let mut input = [0u8; MOST_BYTES + 1];
+// Writes what is written for an input.
+fn write_answers<W: Write>(input: &[u8], writer: &mut W) -> io::Result<()>
+    ensures { OnOk result (Appends (W.contents writer.old) (W.contents writer.new) (output input.now)) }
+{
     let mut answers = [0u8; MOST_CLAIMS];
-    let n = io::read_full(STDIN_FILENO, &mut input);
-    if n > MOST_BYTES {
-        return;
-    }
-    if !ended(STDIN_FILENO) {
-        return;
-    }
-    let count = answer_file(&input[..n], &mut answers);
-    io::write_all(STDOUT_FILENO, &answers[..count]);
+    let count = answer_file(input, &mut answers);
+    writer.write_all(&answers[..count])
+}
+
+// R53: judges the bytes that are read. One byte more than the longest input is read, so that a longer one is noticed; then
+// no more is waited for. An input that can't be read to its end is not judged.
+pub fn judge<R: Read, W: Write>(reader: &mut R, writer: &mut W) -> io::Result<()>
+    ensures { OnOk result (IfSome (R.remaining reader.old)
+        (λ bytes. Appends (W.contents writer.old) (W.contents writer.new) (output bytes))) }
+{
+    let mut input = [0u8; MOST_BYTES + 1];
+    let n = read_full(reader, &mut input)?;
+    write_answers(&input[..n], writer)
+}
+
+// Judges standard input.
+pub fn run(rt: &(impl Input + Print)) -> io::Result<()> {
+    judge(&mut rt.reader(), &mut io::writer(rt))
 }

@@ -1,6 +1,8 @@
 // Judges the claims of standard input and writes the answer bytes to standard output.
 #![tactic(auto)]
 
-fn main() {
-    claim_file::run();
+use std::io;
+
+fn main(rt: HostRuntime) -> io::Result<()> {
+    claim_file::run(&rt)
 }

@@ -1,6 +1,8 @@
 // The program of judge_claims, on an input that ends within a record: it writes nothing.
 #![tactic(auto)]
 
-fn main() {
-    claim_file::run();
+use std::io;
+
+fn main(rt: HostRuntime) -> io::Result<()> {
+    claim_file::run(&rt)
 }
