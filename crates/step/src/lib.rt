@@ -16,7 +16,7 @@ use orbit::{Cell, Problem};
 use units::Units;
 
 // R77: the step taken, with the new estimate. Flat hands nothing over.
-#[derive(Drop)]
+#[derive(Clone, Copy)]
 pub enum Taken {
     Newton(f64),
     Halley(f64),
@@ -25,7 +25,7 @@ pub enum Taken {
 
 // A code, and with code 0 the number of the step and its estimate.
 #[repr(C)]
-#[derive(Drop)]
+#[derive(Clone, Copy)]
 pub struct Stepped {
     pub code: u32,
     pub step: u32,
@@ -34,7 +34,7 @@ pub struct Stepped {
 
 // The same, and the number of the judge's verdict on the estimate.
 #[repr(C)]
-#[derive(Drop)]
+#[derive(Clone, Copy)]
 pub struct JudgedStep {
     pub code: u32,
     pub step: u32,
@@ -50,7 +50,7 @@ pub const HALLEY: u32 = 2;
 pub const FLAT: u32 = 3;
 
 // Where a step begins: M and A, the estimate as it is posed, and that in units.
-#[derive(Drop)]
+#[derive(Clone, Copy)]
 pub struct Place {
     cell: Cell,
     estimate: f64,
@@ -58,7 +58,7 @@ pub struct Place {
 }
 
 // R76: the estimate E, g = e sin E, the residual F and the slope D.
-#[derive(Drop)]
+#[derive(Clone, Copy)]
 pub struct Local {
     estimate: f64,
     g: f64,
