@@ -1,7 +1,7 @@
 -- The place where a step begins, of M, A and an estimate that are within their limits. Assumes nothing.
 use mathlib.Core.Path.{◌≡◌, sym, ap₂, subst, ◌∙◌}
 use Prim.Native.Nat.{ℕ}
-use mathlib.Core.Bool.{Bool, false}
+use mathlib.Core.Bool.{Bool}
 use mathlib.Core.List.{[], ◌∷◌}
 use lib.IntN.{ℤ}
 use lib.Ieee.{Float}

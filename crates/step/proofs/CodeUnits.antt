@@ -5,7 +5,7 @@ use Prim.Native.Nat.{ℕ, suc, ◌-◌, ◌*◌, ◌^◌, ◌≤◌}
 use native.Mathlib.Omega.{arith}
 use lib.Dec.{T, ltb, le→leb, lt→ltb, lit≤}
 use lib.IntN.{ℤ, pos, negsuc, sub_ℕ}
-use lib.Ieee.{Float, binary64, in_float}
+use lib.Ieee.{binary64, in_float}
 use Rattle.grid.specs.Grid.{T_units, depths}
 use Rattle.whole.proofs.Parts.{by_test}
 use Rattle.series.specs.Terms.{Series}
