@@ -1,13 +1,13 @@
 // R49: the form of a claim's record, as a value that code and definitions share: its width, and where its fields stand.
 
 // The first byte of a field, and how many it has.
-#[derive(Drop)]
+#[derive(Clone, Copy)]
 pub struct Field {
     pub at: usize,
     pub bytes: usize,
 }
 
-#[derive(Drop)]
+#[derive(Clone, Copy)]
 pub struct Form {
     pub width: usize,
     pub m: Field,

@@ -13,7 +13,7 @@ mod record;
 
 // What a batch returns: its code, and how many claims were answered.
 #[repr(C)]
-#[derive(Drop)]
+#[derive(Clone, Copy)]
 pub struct Batch {
     pub code: u32,
     pub count: u64,
