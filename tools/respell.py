@@ -24,7 +24,7 @@ MODIFIER = r"(?:(?:abbrev|unfoldable|pub|private|opaque)\s+)*"
 DECLARED = re.compile(rf"^( *){MODIFIER}([^\s:(){{}},;.λ]+(?: [^\s:(){{}},;.λ]+)*) :(?: |$)")
 KIND = re.compile(rf"^( *){MODIFIER}(record|data)\s+(\S+)")
 TOKEN = re.compile(r"[^\s(){}\[\],;.`\"⟨⟩]+")
-IMPORT = re.compile(r"^\s*(?:pub )?(?:ghost )?use ([^\s{;]+?)(?:\.\{([^}]*)\})?(?: as (\S+))?;?$")
+IMPORT = re.compile(r"^\s*(?:pub )?(?:ghost )?use ([^\s{;]+?)(?:\.\{([^}]*)\})?(?: as ([^\s;]+))?;?$")
 WORDS = set("""le lt eq ne add sub mul div mod rem neg pow min max abs length take
 drop append map sum set get zero suc cons nil not and or one true false""".split())
 KEEPS = set("Type where let in of".split())

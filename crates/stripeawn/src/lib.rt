@@ -176,28 +176,28 @@ pub extern "C" fn stripeawn_flyby_sinh(x: u32) -> Bounds
 
 #[unsafe(no_mangle)]
 pub extern "C" fn stripeawn_flyby_lower_end(x: u32, m: u32, b: u32) -> End
-    ensures { result ≡ flyby_ends.lowerRule x m b }
+    ensures { result ≡ flyby_ends.lower_rule x m b }
 {
     flyby::lower_end(x, m, b)
 }
 
 #[unsafe(no_mangle)]
 pub extern "C" fn stripeawn_flyby_upper_end(x: u32, m: u32, b: u32) -> End
-    ensures { result ≡ flyby_ends.upperRule x m b }
+    ensures { result ≡ flyby_ends.upper_rule x m b }
 {
     flyby::upper_end(x, m, b)
 }
 
 #[unsafe(no_mangle)]
 pub extern "C" fn stripeawn_flyby_enclose(m: u32, b: u32) -> Enclosure
-    ensures { result ≡ flyby_enclosure.enclosureRule m b }
+    ensures { result ≡ flyby_enclosure.enclosure_rule m b }
 {
     flyby_enclosure::enclose(m, b)
 }
 
 #[unsafe(no_mangle)]
 pub extern "C" fn stripeawn_flyby_judge(m: u32, b: u32, estimate: f64, n: u32) -> Judged
-    ensures { result ≡ flyby_judge.judgeRule (flyby_judge.claim_of m b estimate n) }
+    ensures { result ≡ flyby_judge.judge_rule (flyby_judge.claim_of m b estimate n) }
 {
     flyby_judge::judge(m, b, estimate, n)
 }
