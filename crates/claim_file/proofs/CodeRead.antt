@@ -1,4 +1,4 @@
--- What is read, and what is written for it. Assumes nothing.
+-- What is read, and what is written for it.
 use Rattle.std.proofs.Common.{◌≡◌, ◌∙◌, sym, ap, subst, ℕ, ◌+◌, ◌≤◌, ◌<◌, Bool, true, false, ltb, refl, Option, None, Some, IfSome, Result, Ok, Err, OnOk, List, [], ◌++◌, length, take, append_assoc, append-nil, length-append, length-take-le, arith}
 use Rattle.std.proofs.lemmas.List.{take-append-le}
 use Rattle.std.proofs.Math.Seq.{take-append-add}

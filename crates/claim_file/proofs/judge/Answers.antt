@@ -1,4 +1,4 @@
--- `claim_file::judge` meets its contract: the bytes that are written are those for what the reader had. Assumes nothing.
+-- `claim_file::judge` meets its contract: the bytes that are written are those for what the reader had.
 use Rattle.std.proofs.Common.{arith}
 use Rattle.claim_file.proofs.CodeRead.{judged}
 use Rattle.claim_file.proofs.judge.Goals as goal

@@ -1,12 +1,11 @@
 -- `claim_file::read_full` meets its contract: each read takes the bytes after those that the earlier ones took.
--- Assumes nothing.
 use Rattle.std.proofs.Common.{◌-◌, arith, length, take}
 use Rattle.std.proofs.lemmas.Grind.{common_steps}
 use Rattle.claim_file.proofs.CodeRead.{consumes_more, taken_more}
 use Rattle.claim_file.proofs.read_full.Goals as goal
 
-pub loop_done_preserved : goal.loop_done_preserved
-loop_done_preserved g c =
+pub loop-done-preserved : goal.loop-done-preserved
+loop-done-preserved g c =
     let l = c.loop-done in
     let n = c.in_ok-n.n in
     let rest = length l.input - l.done in
