@@ -44,7 +44,7 @@ use Rattle.flyby.proofs.Posed.{flybys}
 use Rattle.flyby.proofs.Answered as flyby_answers
 use Rattle.flyby_enclosure.specs.Enclosure as flyby_enclosure
 use Rattle.flyby_enclosure.proofs.Answers as flyby_encloses
-use Rattle.flyby_judge.specs.Judge as flyby_judge
+use Rattle.flyby_judge.specs.Judge as flyby_claims
 use Rattle.flyby_judge.proofs.Answered as flyby_judged
 use Rattle.claims.specs.Form.{twenty}
 use Rattle.claims.specs.Record.{record_checks, claim_at, answer_at}
@@ -78,12 +78,12 @@ in_order x a d n i method z g f claims answers = tt
 flybys_in_order : (x m b n : ℕ) (f : Float)
     → T (all (is_in_order order)
     (sinh_checks x ∷ flyby_checks m b ∷ flyby.end_checks x m b ∷ flyby_enclosure.enclosure_checks m b
-    ∷ flyby_judge.claim_checks (flyby_judge.claim_of m b f n) ∷ []))
+    ∷ flyby_claims.claim_checks (flyby_claims.claim_of m b f n) ∷ []))
 unfolding order
 flybys_in_order x m b n f = tt
 
 pub demand_1 : Demand1
-unfolding bounds_rule proposal_rule judge_rule settle_rule distance_rule step_rule judged_rule sinh_rule flyby.end_rule flyby_enclosure.enclosure_rule flyby_judge.judge_rule batch_rule order
+unfolding bounds_rule proposal_rule judge_rule settle_rule distance_rule step_rule judged_rule sinh_rule flyby.end_rule flyby_enclosure.enclosure_rule flyby_claims.judge_rule batch_rule order
 demand_1 =
     record {
       sine = λ x d. (bounded sine x d).demand;

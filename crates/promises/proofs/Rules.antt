@@ -31,7 +31,7 @@ use Rattle.flyby.proofs.Posed.{flybys}
 use Rattle.flyby.proofs.Answered as flyby_answers
 use Rattle.flyby_enclosure.specs.Enclosure as flyby_enclosure
 use Rattle.flyby_enclosure.proofs.Answers as flyby_encloses
-use Rattle.flyby_judge.specs.Judge as flyby_judge
+use Rattle.flyby_judge.specs.Judge as flyby_claims
 use Rattle.flyby_judge.proofs.Answered as flyby_judged
 use Rattle.claims.specs.Form.{twenty}
 use Rattle.claims.specs.Record.{record_checks, claim_at, answer_at}
@@ -43,7 +43,7 @@ use Rattle.promises.specs.Rules.{Rules}
 use Rattle.promises.proofs.Demand1.{demand_1}
 
 pub rules : Rules
-unfolding bounds_rule proposal_rule judge_rule settle_rule distance_rule step_rule judged_rule sinh_rule flyby.end_rule flyby_enclosure.enclosure_rule flyby_judge.judge_rule batch_rule answer_at
+unfolding bounds_rule proposal_rule judge_rule settle_rule distance_rule step_rule judged_rule sinh_rule flyby.end_rule flyby_enclosure.enclosure_rule flyby_claims.judge_rule batch_rule answer_at
 rules =
     record {
       sine = λ x d. ((bounded sine x d).says _ refl).made;

@@ -38,7 +38,7 @@ use Rattle.flyby.specs.Posed.{flyby_with, coded_flyby}
 use Rattle.flyby.specs.declared.CodedFlyby.{CodedFlyby}
 use Rattle.flyby.specs.Entry as flyby
 use Rattle.flyby_enclosure.specs.Enclosure as flyby_enclosure
-use Rattle.flyby_judge.specs.Judge as flyby_judge
+use Rattle.flyby_judge.specs.Judge as flyby_claims
 use Rattle.claims.specs.Form.{twenty}
 use Rattle.claims.specs.Record.{record_checks, answer_at}
 use Rattle.claims.specs.Batch.{batch_checks, batch_with, batch_rule, answers_after}
@@ -77,8 +77,8 @@ pub record Demand1 : Type 0 where
   pub flyby_upper_end : (x m b : ℕ) → Refuses (flyby.end_checks x m b) (λ (r : End). r.code) end_refused (flyby.upper_rule x m b)
   pub flyby_enclose : (m b : ℕ)
       → Refuses (flyby_enclosure.enclosure_checks m b) (λ (r : Enclosure). r.code) refusal (flyby_enclosure.enclosure_rule m b)
-  pub flyby_judge : (k : flyby_judge.Claim)
-      → Refuses (flyby_judge.claim_checks k) (λ (r : Judged). r.code) unjudged (flyby_judge.judge_rule k)
+  pub flyby_judge : (k : flyby_claims.Claim)
+      → Refuses (flyby_claims.claim_checks k) (λ (r : Judged). r.code) unjudged (flyby_claims.judge_rule k)
   pub batch : (claims answers : List ℕ)
       → Refuses (batch_checks twenty (length claims) (length answers)) (λ (r : Batch). r.code) (λ k. batch_with k 0)
       (batch_of claims answers)
@@ -101,7 +101,7 @@ pub record Demand1 : Type 0 where
   pub flybys_in_order : (x m b n : ℕ) (f : Float)
       → T (all (is_in_order order)
       (sinh_checks x ∷ flyby_checks m b ∷ flyby.end_checks x m b ∷ flyby_enclosure.enclosure_checks m b
-      ∷ flyby_judge.claim_checks (flyby_judge.claim_of m b f n) ∷ []))
+      ∷ flyby_claims.claim_checks (flyby_claims.claim_of m b f n) ∷ []))
   pub in_order : (x a d n i method : ℕ) (z : ℤ) (g : Given) (f : Float) (claims answers : List ℕ)
       → T (all (is_in_order order)
       (bounds_checks x d ∷ end_checks z g d ∷ enclosure_checks g d ∷ checks_of g ∷ problem_checks g d

@@ -28,7 +28,7 @@ use Rattle.sinh.specs.Entry.{sinh_rule}
 use Rattle.flyby.specs.Ends.{Meets}
 use Rattle.flyby.specs.Entry as flyby
 use Rattle.flyby_enclosure.specs.Enclosure as flyby_enclosure
-use Rattle.flyby_judge.specs.Judge as flyby_judge
+use Rattle.flyby_judge.specs.Judge as flyby_claims
 use Rattle.claims.specs.Form.{twenty}
 use Rattle.claims.specs.Record.{claim_at}
 use Rattle.promises.specs.Demand1.{batch_of}
@@ -128,7 +128,7 @@ pub record Demand2 : Type 0 where
   pub flyby_lower : (x m b : ℕ) → flyby.lower_rule x m b ≡ flagged true → Meets false m b x
   pub flyby_upper : (x m b : ℕ) → flyby.upper_rule x m b ≡ flagged true → Meets true m b x
   pub flyby_enclose : (m b : ℕ) → (flyby_enclosure.enclosure_rule m b).code ≡ number done → FlybyEnds m b (flyby_enclosure.enclosure_rule m b)
-  pub flyby_confirmed : (k : flyby_judge.Claim) → flyby_judge.judge_rule k ≡ verdict Confirmed → FlybyConfirmed k
-  pub flyby_refuted : (k : flyby_judge.Claim) → flyby_judge.judge_rule k ≡ verdict Refuted → FlybyRefuted k
+  pub flyby_confirmed : (k : flyby_claims.Claim) → flyby_claims.judge_rule k ≡ verdict Confirmed → FlybyConfirmed k
+  pub flyby_refuted : (k : flyby_claims.Claim) → flyby_claims.judge_rule k ≡ verdict Refuted → FlybyRefuted k
   -- every number is the one its rule gives
   pub rules : Rules

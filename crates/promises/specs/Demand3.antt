@@ -17,7 +17,7 @@ use Rattle.judge.specs.declared.Verdict.TheVariants.{Confirmed, Refuted}
 use Rattle.judge.specs.Exact.{at_depth}
 use Rattle.step.specs.Entry.{judged_rule}
 use Rattle.flyby.specs.Entry as flyby
-use Rattle.flyby_judge.specs.Judge as flyby_judge
+use Rattle.flyby_judge.specs.Judge as flyby_claims
 use Rattle.claims.specs.Form.{twenty}
 use Rattle.claims.specs.Record.{reserved_check, claim_at, answer_at}
 
@@ -65,4 +65,4 @@ pub record Demand3 : Type 0 where
   pub flyby_apart : (x y m b : ℕ) → flyby.lower_rule x m b ≡ flagged true → flyby.upper_rule y m b ≡ flagged true → x ≤ y
   -- R46, R89, of the tests of a flyby; one depth has one answer
   pub flyby_never_both : (m b : ℕ) (u : Units) (n : ℕ) → one ≤ b → u.ceiling ≤ X_top
-      → T (confirmed_by (flyby_judge.tests_of m b) u n) → T (refuted_by (flyby_judge.tests_of m b) u n) → ⊥
+      → T (confirmed_by (flyby_claims.tests_of m b) u n) → T (refuted_by (flyby_claims.tests_of m b) u n) → ⊥

@@ -22,7 +22,7 @@ use Rattle.flyby.specs.Ends as flyby_ends
 use Rattle.flyby.specs.Entry as flyby
 use Rattle.flyby.specs.Posed.{flyby_with, coded_flyby}
 use Rattle.flyby_enclosure.specs.Enclosure as flyby_enclosure
-use Rattle.flyby_judge.specs.Judge as flyby_judge
+use Rattle.flyby_judge.specs.Judge as flyby_claims
 use Rattle.claims.specs.Form.{twenty}
 use Rattle.claims.specs.Record.{claim_at, answer_at}
 use Rattle.claims.specs.AnswerByte.{AnswerByte}
@@ -69,7 +69,7 @@ pub record Rules : Type 0 where
   -- R88
   pub flyby_enclose : (m b : ℕ) → Gives (λ r. r.code) (flyby_enclosure.enclosure_rule m b) (flyby_enclosure.enclosed m b)
   -- R89
-  pub flyby_judge : (k : flyby_judge.Claim) → Gives (λ r. r.code) (flyby_judge.judge_rule k) (verdict (flyby_judge.claim_verdict k))
+  pub flyby_judge : (k : flyby_claims.Claim) → Gives (λ r. r.code) (flyby_claims.judge_rule k) (verdict (flyby_claims.claim_verdict k))
   -- R51
   pub count : (claims answers : List ℕ)
       → Gives (λ r. r.code) (batch_of claims answers) (batch_with (number done) (length claims / twenty.width))

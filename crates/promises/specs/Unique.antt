@@ -49,7 +49,7 @@ use Rattle.flyby.specs.Entry as flyby
 use Rattle.flyby.specs.Posed.{coded_flyby}
 use Rattle.flyby.specs.declared.CodedFlyby.{CodedFlyby}
 use Rattle.flyby_enclosure.specs.Enclosure as flyby_enclosure
-use Rattle.flyby_judge.specs.Judge as flyby_judge
+use Rattle.flyby_judge.specs.Judge as flyby_claims
 use Rattle.claims.specs.Form.{twenty}
 use Rattle.claims.specs.Batch.{batch_rule, answers_after}
 use Rattle.claims.specs.declared.Batch.{Batch}
@@ -89,7 +89,7 @@ pub record Unique : Type 0 where
   pub flyby_lower_end : (x m b : ℕ) → OneResult (λ (r : End). r ≡ flyby.lower_rule x m b)
   pub flyby_upper_end : (x m b : ℕ) → OneResult (λ (r : End). r ≡ flyby.upper_rule x m b)
   pub flyby_enclose : (m b : ℕ) → OneResult (λ (r : Enclosure). r ≡ flyby_enclosure.enclosure_rule m b)
-  pub flyby_judge : (m b : ℕ) (estimate : Float) (n : ℕ) → OneResult (λ (r : Judged). r ≡ flyby_judge.judge_rule (flyby_judge.claim_of m b estimate n))
+  pub flyby_judge : (m b : ℕ) (estimate : Float) (n : ℕ) → OneResult (λ (r : Judged). r ≡ flyby_claims.judge_rule (flyby_claims.claim_of m b estimate n))
   pub judge_claims : (claims before : List ℕ) → OneResult (BatchAllows claims before)
   -- the checked constructors, and a double in units
   pub angle : (units : ℕ) → OneResult (λ (r : CodedAngle). r ≡ coded_angle units)
