@@ -15,6 +15,7 @@ const MOST_CLAIMS: usize = 3_276;
 const MOST_BYTES: usize = MOST_CLAIMS * claims::form::TWENTY.width;
 
 // Puts what is written for an input at the start of `answers`, and returns how many bytes that is.
+#[tactic(auto, using(crate::proofs::Output::longer))]
 pub fn answer_file(input: &[u8], answers: &mut [u8; MOST_CLAIMS]) -> usize
     ensures value { result ≡ length (output input.now) }
     ensures answers_after { answers.new ≡ output_in input.now answers.old }

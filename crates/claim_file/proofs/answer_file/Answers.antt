@@ -5,15 +5,8 @@ use Rattle.claims.specs.Form.{twenty}
 use Rattle.claims.proofs.BatchCount.{count_fits}
 use Rattle.claims.proofs.AnswersBuffer.{length_kept}
 use Rattle.claim_file.specs.File.{most_claims}
-use Rattle.claim_file.proofs.Output.{longer}
 use Rattle.claim_file.proofs.CodeOutput.{counted, left}
 use Rattle.claim_file.proofs.answer_file.Goals as goal
-
-pub returns-then-input-gt-MOST_BYTES-clause-value : goal.returns-then-input-gt-MOST_BYTES-clause-value
-returns-then-input-gt-MOST_BYTES-clause-value c = rw (longer c.args.input.now c.if-input-gt-MOST_BYTES.true)
-
-pub returns-then-input-gt-MOST_BYTES-clause-answers_after : goal.returns-then-input-gt-MOST_BYTES-clause-answers_after
-returns-then-input-gt-MOST_BYTES-clause-answers_after c = rw (longer c.args.input.now c.if-input-gt-MOST_BYTES.true)
 
 pub returns-clause-value : goal.returns-clause-value
 returns-clause-value c =
