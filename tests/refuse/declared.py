@@ -17,7 +17,7 @@ HEADER = re.compile(r"--|infix|(?:unfoldable )?(?:pub )?(?:use|mod) ")
 RENAMED = re.compile(r"^[^-\n]*\buse [^\n]*\{[^}\n]* as ", re.M)
 COMMENT = re.compile(r"--.*")
 TOKEN = re.compile(r"[^\s(){}.,;]+")
-NAMED = r"Rattle·{}·(specs|proofs)\.\1\.([\w.]+)"
+NAMED = r"Rattle\.{}\.(specs|proofs)\.([\w.]+)"
 
 
 class Unread(Exception):
@@ -59,9 +59,9 @@ def declaration(file, first, lines):
     if opened and opened[1] != "record":
         names |= {name for inner in INNER.findall(text)
                   for name in inner.split()}
-    # of an operator, `_and_`, what is written of it
-    names |= {part for name in names for part in name.split("_")}
-    names -= {"", "_"}
+    # of an operator, `◌and◌`, what is written of it
+    names |= {part for name in names for part in name.split("◌")}
+    names -= {"", "◌"}
     for line in list(at_margin(lines).values())[1:]:
         if not line.startswith("unfolding ") and not names & {*line.split()}:
             raise Unread(f"{file}: {line}")

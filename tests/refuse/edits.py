@@ -8,15 +8,17 @@
 
 `file:` holds for the pairs after it. `at:` is ours, and rt passes it over:
 the file of the crate in which the first refusal has to stand, and the name of
-what is refused there; or a file or a folder alone. An edit of one function's
-body needs none: there it is the function itself.
+what is refused there; or a file or a folder alone. With a file of src/ the
+name is a function's, whose proof may stand in files of its own. An edit of one
+function's body needs none: there it is the function itself.
 """
 import re
 from dataclasses import dataclass
 from pathlib import Path
 
-FUNCTION = re.compile(r'( *)(?:pub )?(?:extern "C" )?fn (\w+)')
-TYPE = re.compile(r"impl (\w+)")
+FUNCTION = re.compile(
+    r'( *)(?:pub(?:\(\w+\))? )?(?:unsafe )?(?:extern "C" )?fn (\w+)')
+TYPE = re.compile(r"impl(?:<[^>]*>)? (?:.* for )?(\w+)")
 
 
 class BadEdit(Exception):
@@ -77,6 +79,19 @@ def of_crate(folder, place="edits"):
             for path in sorted((folder / place).glob("*.edit"))}
 
 
+def opening(lines, at, margin):
+    """The line, from that of a function on, that opens its body; none where
+    it has none, or one that stands on a line with the rest."""
+    for n in range(at, len(lines)):
+        line = lines[n]
+        if line == margin + "{" or line.endswith(" {") and (
+                n == at or line.startswith(margin + ")")):
+            return n
+        if line.endswith(";") or n == at and line.endswith("}"):
+            return None
+    return None
+
+
 def functions(file, text):
     """The functions of a source file, each under its name in the crate."""
     lines = text.split("\n")
@@ -87,9 +102,9 @@ def functions(file, text):
             named = TYPE.match(line)
             owner = [named[1]] if named else []
         start = FUNCTION.match(line)
-        if start:
+        body = opening(lines, at, start[1]) if start else None
+        if body is not None:
             margin = start[1]
-            body = at if line.endswith("{") else lines.index(margin + "{", at)
             end = lines.index(margin + "}", body)
             path = module + (owner if margin else []) + [start[2]]
             first = at
@@ -156,3 +171,14 @@ def body_of(edit, folder):
         inside |= {f for f in functions_of(folder)
                    if f.file == file and f.body <= line < f.end} or {None}
     return inside.pop() if len(inside) == 1 else None
+
+
+def function_of(edit, folder):
+    """The function in which an edit has to be refused, if it is one: that of
+    its line `at:`, or whose body it changes."""
+    if not edit.at:
+        return body_of(edit, folder)
+    file, _, name = edit.at.partition(" ")
+    named = [f for f in functions_of(folder) if f.file == file
+             and name in (f.name, f.name.rpartition("::")[2])]
+    return named[0] if len(named) == 1 else None

@@ -2,11 +2,11 @@
 
     python3 faults.py KIT
 
-KIT is the toolchain's folder. A small repository has a crate of two functions
-and one of two definitions, with edits that are refused and others that show
+KIT is the toolchain's folder. A small repository has a crate of functions and
+one of two definitions, with edits that are refused and others that show
 nothing. What is not as it should be is printed, and the exit status is then 1.
 """
-import os
+import re
 import shutil
 import subprocess
 import sys
@@ -15,39 +15,50 @@ from pathlib import Path
 import trial
 
 HERE = Path(__file__).parent
-MACHINE = os.uname().machine
 
 SOURCE = "src/lib.rt"
 FILES = {
     "crates.txt": "one:\nlaws:\nwrong:\nbare:\ncut:\nother:\n",
     "one/src/lib.rt": """\
-// Two numbers, of which the second is got from the first.
-ghost use mathlib.Core.Path.{_≡_};
+// Two numbers, of which the second is got from the first, and one of a limit.
+#![tactic(auto)]
+
+ghost use Rattle.std.specs.Prelude.{◌≡◌, min};
 
 pub fn seven() -> u32
-    ensures { λ r. ⌜ r ≡ 7 ⌝ }
+    ensures { result ≡ 7 }
 {
     let n = 7;
     n
 }
 
 pub fn again() -> u32
-    ensures { λ r. ⌜ r ≡ 7 ⌝ }
+    ensures { result ≡ 7 }
 {
     seven()
 }
+
+pub fn most_five(a: u32) -> u32
+    ensures { result ≡ min a 5 }
+{
+    if a > 5 { 5 } else { a }
+}
 """,
-    "one/proofs/seven/Proof.antt": """\
+    "one/proofs/seven/Answers.antt": """\
 -- `one::seven` meets its contract. Assumes nothing.
-use mathlib.Core.Path.{refl}
-use Rattle·one·proofs.proofs.seven.Statement.{statement}
-use Rattle·one·proofs.proofs.seven.Tie as tie
+use Rattle.std.proofs.Common.{refl}
+use Rattle.one.proofs.seven.Goals as goal
 
-returns : tie.Need-returns
+pub returns : goal.returns
 returns c = refl
+""",
+    "one/proofs/most_five/Answers.antt": """\
+-- `one::most_five` meets its contract. Assumes nothing.
+use Rattle.std.proofs.Common.{arith}
+use Rattle.one.proofs.most_five.Goals as goal
 
-pub seven-spec : {M : Type 1} → statement M
-seven-spec = tie.close (tie.spec returns)
+pub returns-then-a-gt5 : goal.returns-then-a-gt5
+returns-then-a-gt5 c = omega (arith, c.if-a-gt5.true)
 """,
     "bare/src/lib.rt": "pub fn one() -> u32 {\n    1\n}\n",
     "cut/src/lib.rt": "pub fn three() -> u32 {\n    3\n}\n",
@@ -55,15 +66,15 @@ seven-spec = tie.close (tie.spec returns)
 }
 NUMBER = """\
 -- A number.
-use Prim.Native.Nat.{{ℕ, _+_}}
+use Rattle.std.specs.Prelude.{{ℕ, ◌+◌}}
 
 abbrev pub {1} : ℕ
 {1} = {2}
 """
 LAW = """\
 -- What the number is.
-use mathlib.Core.Path.{{_≡_, refl}}
-use Rattle·{3}·specs.specs.{0}.{{{1}}}
+use Rattle.std.proofs.Common.{{◌≡◌, refl}}
+use Rattle.{3}.specs.{0}.{{{1}}}
 
 pub {1}-is : {1} ≡ {2}
 {1}-is = refl
@@ -71,10 +82,9 @@ pub {1}-is : {1} ≡ {2}
 # What rests on both numbers, on the first through another name.
 SUM = """\
 -- Their sum.
-use mathlib.Core.Path.{{_≡_, refl}}
-use Prim.Native.Nat.{{ℕ, _+_}}
-use Rattle·{0}·specs.specs.Low.{{low}}
-use Rattle·{0}·specs.specs.High.{{high}}
+use Rattle.std.proofs.Common.{{ℕ, ◌≡◌, ◌+◌, refl}}
+use Rattle.{0}.specs.Low.{{low}}
+use Rattle.{0}.specs.High.{{high}}
 
 abbrev pub first : ℕ
 first = low
@@ -96,16 +106,27 @@ LOW, HIGH = "specs/Low.antt", "specs/High.antt"
 LOW_LAW, HIGH_LAW = "proofs/Low.antt low-is", "proofs/High.antt high-is"
 SUM_LAW = "proofs/Sum.antt sum-is"
 ACCEPTED, UNREACHED = "NOT REFUSED", "did not reach the prover"
-# Edits: at, file, old, new; and the fault that is to be said of each. The first
-# two of functions are tried together, and not with the third, of a function
-# that has one already; so are the first two of definitions, and not the third,
-# which is said to be refused by a law that the first breaks.
+# Edits: at, file, old, new; and the fault that is to be said of each. Of those
+# of functions some are tried together, and not two of one function; so are the
+# first two of definitions, and not the third, which is said to be refused by a
+# law that the first breaks. The proof of `most_five` says its test by a name
+# that an edit of the test changes; `again` has no proof file.
 EDITS = {
     "one/eight": ("", SOURCE, "= 7;", "= 8;", ""),
     "one/beside_a_refused_one": ("", SOURCE, "    seven()", "    (seven())",
                                  ACCEPTED),
     "one/of_the_same_function": ("", SOURCE, "    n", "    (n)", ACCEPTED),
+    "one/of_no_proof_file": ("", SOURCE, "    seven()", "    seven() + 1", ""),
+    "one/of_a_named_function": (f"{SOURCE} again", SOURCE, "    seven()", "    6",
+                                ""),
+    "one/of_another_function": (f"{SOURCE} seven", SOURCE, "    seven()", "    5",
+                                f"not at {SOURCE} seven first"),
+    "one/test_renamed": ("", SOURCE, "a > 5", "a >= 5", ACCEPTED),
+    "one/test_renamed_and_wrong": ("", SOURCE, "a > 5", "a > 6", ""),
     "one/not_compiled": (SOURCE, SOURCE, "    n", "    m", UNREACHED),
+    "one/not_read": ("", SOURCE, "min a 5", "mni a 5", "no 'at:' line"),
+    "one/not_read_there": (f"{SOURCE} most_five", SOURCE, "min a 5", "mni a 5",
+                           "cannot be read"),
     "one/not_said_where": ("", SOURCE, "Two", "Three", "no 'at:' line"),
     "laws/low_4": (LOW_LAW, LOW, "low = 3", "low = 4", ""),
     "laws/high_as_a_sum": (HIGH_LAW, HIGH, "= 4", "= 2 + 2", ACCEPTED),
@@ -135,20 +156,13 @@ EDITS = {
 # edited one what it is given to say.
 PROVER = """\
 #!/bin/sh
-while [ $# -gt 0 ]; do
-    case $1 in
-    --incremental) mkdir -p "$2/build" ;;
-    */src/lib.rt) source=$1 ;;
-    esac
-    shift
-done
-if grep -q -e '= 8;' -e Three "$source"; then
+if grep -q -e '= 8;' -e Three src/lib.rt; then
     {}
 fi
 echo 'crate one: modules loaded=1 checked=0'
 echo 'logic=proved functions=2'
 """
-ERROR = ("echo \"${{source%src/lib.rt}}proofs/{}/Proof.antt:1:1: error: {}\"; "
+ERROR = ("echo './proofs/{}/Answers.antt:1:1: error: {}'; "
          "echo logic=not-proved; exit 1")
 WRONG = ERROR.format("seven", "wrong")
 EIGHT = EDITS["one/eight"][:-1]
@@ -162,7 +176,7 @@ PROVERS = {
     "names another function": (EIGHT, ERROR.format("again", "wrong"),
                                "not at proofs/seven first"),
     "cannot name a need": (
-        EIGHT, ERROR.format("seven", "no `Need` that can be named from here"),
+        EIGHT, ERROR.format("seven", "has no `x` that can be named from here"),
         "proof file does not fit"),
     "only waits": (EIGHT, ERROR.format("seven", "it was not admitted"),
                    "not at proofs/seven first"),
@@ -191,17 +205,18 @@ def repository(root):
         write(root / (name if name == "crates.txt" else f"crates/{name}"), text)
     for name, words in EDITS.items():
         put_edit(root, name, words[:-1])
-    done = subprocess.run(["rt", "check"], cwd=root, text=True, check=False,
-                          stdout=subprocess.PIPE, stderr=subprocess.STDOUT)
+    done = subprocess.run(["rt", "all", "check"], cwd=root, text=True,
+                          stdout=subprocess.PIPE, stderr=subprocess.STDOUT,
+                          check=False)
     if done.returncode != 0:
         sys.exit(f"the small repository is not proved:\n{done.stdout}")
-    modules = {name: root / f"target/rlib/{name}.rlib/toolchain/checked"
+    modules = {name: root / f"crates/{name}/out/incremental"
                for name in ("bare", "cut", "other")}
     shutil.rmtree(modules["other"])
     shutil.copytree(modules["bare"], modules["other"])
     shutil.rmtree(modules["bare"])
     modules["bare"].mkdir()
-    min(modules["cut"].glob("*Proof.oantt")).unlink()
+    min(modules["cut"].glob("*/*Proof.oantt")).unlink()
 
 
 def refuse(root, kit):
@@ -214,7 +229,7 @@ def refuse(root, kit):
 
 def fake_kit(place, words):
     """A kit whose prover says the words of an edited crate."""
-    rattle = place / f"on/{MACHINE}/bin/rattle"
+    rattle = place / "bin/rattle"
     write(rattle, PROVER.format(words))
     rattle.chmod(0o755)
     return place
@@ -236,7 +251,7 @@ def edits_seen(root, kit):
              if not seen(name, words[-1], said)]
     wrong += [f"no two edits of {crate} were tried together"
               for crate in ("one", "laws")
-              if f"2 of {crate} together" not in said]
+              if not re.search(f"[2-9] of {crate} together", said)]
     if status != 1:
         wrong.append(f"planted edits: exit status {status}")
     return wrong + [said] if wrong else []

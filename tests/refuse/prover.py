@@ -2,7 +2,7 @@
 
 A check over an incremental folder takes from it what was checked before and
 is still up to date. Here the folder is filled anew for each check, with the
-modules that the run at hand proved, and it is believed only where it refuses.
+modules that rt has proved and kept, and it is believed only where it refuses.
 """
 import os
 import re
@@ -12,12 +12,17 @@ from dataclasses import dataclass
 from pathlib import Path
 
 ERROR = re.compile(r"(\S+?):(\d+):(\d+): error: (.*)")
-LEFT = re.compile(r"note: (\S+?):(\d+):(\d+): (it is not proved that .*)")
-COUNT = re.compile(r"crate \S+: modules loaded=(\d+) checked=(\d+)")
+GOAL = "it is not proved that "
+LEFT = re.compile(rf"note: (\S+?):(\d+):(\d+): ({GOAL}.*)")
+COUNT = re.compile(r"^crate \S+: modules loaded=(\d+) checked=(\d+)", re.M)
 WAITS = "was not admitted"
 # A check that takes longer has come to nothing.
 SECONDS = 900
-UNNAMED = "that can be named from here"
+# What is said of a name that the edit took away.
+UNNAMED = re.compile("has no field|is not in scope|has no `")
+# What is said of an edited text that is none.
+UNREAD = re.compile("is not in scope|has no field|is no name|operand is missing|"
+                    "expected the end|cannot continue")
 
 
 @dataclass(frozen=True)
@@ -35,7 +40,17 @@ class Refusal:
     @property
     def unfit(self):
         """Whether only the proof file does not fit the code any more."""
-        return UNNAMED in self.text
+        return (self.path.startswith("proofs/")
+                and UNNAMED.search(self.text) is not None)
+
+    @property
+    def unread(self):
+        """Whether a contract or a definition could not be read at all."""
+        said = re.sub("`[^`]*`", "", self.text)
+        return (self.path.startswith(("src/", "specs/"))
+                and not self.text.startswith(GOAL)
+                and (not self.text.startswith("`")
+                     or UNREAD.search(said) is not None))
 
 
 @dataclass(frozen=True)
@@ -62,87 +77,98 @@ class Outcome:
                 and int(counts[2]) == 0)
 
 
-def refusals(text, folder):
-    """The refusals of a check's output, in its order, below the folder."""
+def refusals(text):
+    """The refusals of a check's output, in its order."""
     found = []
     for line in text.splitlines():
         said = ERROR.match(line) or LEFT.match(line)
         if said and WAITS not in said[4]:
-            path = said[1].removeprefix(f"{folder}/")
+            path = said[1].removeprefix("./")
             found.append(Refusal(path, int(said[2]), int(said[3]), said[4]))
     return tuple(found)
 
 
-def outcome(status, text, folder):
-    return Outcome(status, text, refusals(text, folder))
+def outcome(status, text):
+    return Outcome(status, text, refusals(text))
+
+
+def link_or_copy(old, new):
+    """A second name for a module: a check replaces such a file, and changes
+    none. Of any other file a copy."""
+    try:
+        if old.endswith(".oantt"):
+            return os.link(old, new)
+    except OSError:
+        pass
+    return shutil.copy2(old, new)
 
 
 class Prover:
-    """The kit's prover over the libraries below target/ of a repository."""
+    """The kit's prover over the libraries of a repository, as rt built
+    them."""
 
     def __init__(self, kit, root):
-        own = Path(kit) / "on" / os.uname().machine
-        self.rattle = own / "bin/rattle"
-        self.own = own / "rlib"
-        self.logic = ["--antt-project", f"{kit}/logic/antt-project.json",
-                      "--logic-built", str(own / "logic-built")]
-        self.root = Path(root)
-        self.libraries = self.root / "target/rlib"
-        self.uses = self.listed()
-        self.build = None
+        self.kit, self.root = Path(kit), Path(root)
+        self.rattle = self.kit / "bin/rattle"
+        self.static, self.uses = set(), {}
+        self.read_list()
 
-    def listed(self):
-        """crates.txt: what each crate stands on."""
-        found = {}
+    def read_list(self):
+        """crates.txt: what each crate stands on, and which are for C."""
         for line in (self.root / "crates.txt").read_text().splitlines():
-            name, colon, uses = line.partition("#")[0].partition(":")
-            if colon:
-                found[name.strip()] = uses.split()
+            head, _, uses = line.partition("#")[0].partition(":")
+            name, *kind = head.split() or [""]
+            if name:
+                self.uses[name] = uses.split()
+            if "staticlib" in kind:
+                self.static.add(name)
+
+    def below(self, crate):
+        """The crates of the repository that a crate stands on."""
+        found = {}
+        for name in self.uses.get(crate, []):
+            if name in self.uses:
+                found |= {**self.below(name), name: None}
         return found
 
+    def out(self, crate):
+        return self.root / "crates" / crate / "out"
+
     def words(self, crate, folder):
-        main = folder / "src/main.rt"
+        """As rt has them."""
         yield from ("--crate-name", crate)
-        yield str(main if main.exists() else folder / "src/lib.rt")
+        yield "src/main.rt" if (folder / "src/main.rt").exists() else "src/lib.rt"
         for name in ["std"] + self.uses.get(crate, []):
-            place = self.libraries if name in self.uses else self.own
+            place = (self.out(name) / "rlib" if name in self.uses
+                     else self.kit / "rlibs")
             yield from ("--extern", f"{name}={place}/{name}.rlib")
-        for place in (self.libraries, self.own):
-            yield from ("-L", f"dependency={place}")
-        yield from self.logic
+        yield from ("-L", f"dependency={self.kit}/rlibs")
+        for name in self.below(crate):
+            yield from ("-L", f"dependency={self.out(name)}/rlib")
+        yield from ("--antt-project",
+                    f"{self.kit}/rattle/logic/antt-project.json",
+                    "--logic-built", f"{self.kit}/logic_built",
+                    "--jobs", "1", "--links", f"{crate}=")
+        if crate in self.static:
+            yield from ("--crate-type", "staticlib")
 
     def check(self, crate, folder, incremental):
         """Checks a copy of the crate over an incremental folder."""
         done = subprocess.run(
             [self.rattle, "check", *self.words(crate, folder),
-             "--incremental", incremental], stdin=subprocess.DEVNULL,
-            stdout=subprocess.PIPE, stderr=subprocess.STDOUT, check=False,
-            timeout=SECONDS)
-        text = done.stdout.decode(errors="replace")
-        return outcome(done.returncode, text, folder)
-
-    def learn_build(self, room):
-        """Sets the name that this build of the prover gives its folder in an
-        incremental one, which the checked modules have to lie in."""
-        (room / "src").mkdir(parents=True)
-        (room / "src/lib.rt").write_text("pub fn one() -> u32 {\n    1\n}\n")
-        said = self.check("probe", room, room / "incremental")
-        names = [p.name for p in (room / "incremental").glob("*")]
-        if said.status != 0 or len(names) != 1:
-            raise RuntimeError(f"the prover is not usable:\n{said.text}")
-        self.build = names[0]
-
-    def seed(self, crate, incremental):
-        """Fills a new incremental folder with the crate's proved modules."""
-        modules = self.libraries / f"{crate}.rlib/toolchain/checked"
-        shutil.copytree(modules, incremental / self.build)
+             "--incremental", incremental], cwd=folder,
+            stdin=subprocess.DEVNULL, stdout=subprocess.PIPE,
+            stderr=subprocess.STDOUT, check=False, timeout=SECONDS)
+        return outcome(done.returncode, done.stdout.decode(errors="replace"))
 
     def copy(self, crate, room):
-        """A room with a copy of the crate, and its modules beside it."""
+        """A room with a copy of the crate, and its proved modules beside
+        it."""
         folder, incremental = room / "crate", room / "incremental"
         for part in ("src", "specs", "proofs"):
             place = self.root / "crates" / crate / part
             if place.is_dir():
                 shutil.copytree(place, folder / part)
-        self.seed(crate, incremental)
+        shutil.copytree(self.out(crate) / "incremental", incremental,
+                        copy_function=link_or_copy)
         return folder, incremental

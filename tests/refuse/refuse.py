@@ -2,12 +2,12 @@
 
     python3 refuse.py KIT [--full] [CRATE..]
 
-KIT is the toolchain's folder. With --full every edit goes by rt must-fail
-too, and without it one in twenty, drawn by the commit; both ways have to
-agree. What is wrong is printed, and the exit status is then 1.
+KIT is the toolchain's folder; the crates have to stand proved by rt, with what
+it keeps. With --full every edit goes by rt must-fail too, and without it one in
+twenty, drawn by the commit; both ways have to agree. What is wrong is printed,
+and the exit status is then 1.
 """
 import os
-import subprocess
 import sys
 import time
 from concurrent.futures import FIRST_COMPLETED, ThreadPoolExecutor, wait
@@ -54,7 +54,7 @@ class Run:
         self.root, self.prove = root, prove
         self.pool = Pool()
         self.paths, self.answers, self.faults = {}, [], []
-        self.tried, self.again = 0, 0
+        self.tried, self.again, self.mended = 0, 0, 0
         for crate in crates:
             self.paths |= edits.of_crate(root / "crates" / crate)
 
@@ -112,19 +112,25 @@ class Run:
                 self.fault(f"{answer.edit.name}: {answer.fault}")
             else:
                 self.answers.append(answer)
-                say(f"{answer.edit.name}: refused at {answer.refusal}")
+                self.mended += answer.mended
+                say(f"{answer.edit.name}: refused at {answer.refusal}" +
+                    (", by proofs with its names" if answer.mended else ""))
         say(f"{self.tried} of {len(self.paths)}; {len(group)} of "
             f"{group[0].crate} together, {seconds:.1f} s")
         return lost
 
     def check_left_to_rt(self, crates):
-        """What rt has said of the edits in must-fail/, where it has."""
-        for crate in crates:
-            folder = self.root / "crates" / crate
-            for edit in edits.of_crate(folder, "must-fail"):
-                answer = trial.tried_by_rt(edit, self.root)
-                if answer and answer.fault:
-                    self.fault(f"{edit.name}, by rt: {answer.fault}")
+        """What rt says of the edits in must-fail/."""
+        left = [edit for crate in crates for edit in edits.of_crate(
+            self.root / "crates" / crate, "must-fail")]
+        if not left:
+            return
+        _, said = full.run(self.root, sorted({edit.crate for edit in left}))
+        for edit in left:
+            answer = trial.tried_by_rt(edit, self.root, said)
+            if answer is None or answer.fault:
+                fault = answer.fault if answer else "it has not tried it"
+                self.fault(f"{edit.name}, by rt: {fault}")
 
     def check_full(self, every):
         """Those that go by rt must-fail too."""
@@ -142,31 +148,6 @@ class Run:
         return len(chosen)
 
 
-def stale(root, crates):
-    """Whether a crate has no proof below target/ that is newer than every
-    source. rt is not asked where nothing is: it may be at work elsewhere."""
-    stamps = [root / "target/stamp" / crate for crate in crates]
-    if not all(stamp.exists() for stamp in stamps):
-        return True
-    oldest = min(stamp.stat().st_mtime for stamp in stamps)
-    sources = [root / "crates.txt", *(root / "crates").rglob("*.rt"),
-               *(root / "crates").rglob("*.antt")]
-    return any(source.stat().st_mtime > oldest for source in sources)
-
-
-def proved(root, crates):
-    """Whether the crates stand proved below target/, by rt where need be."""
-    if not stale(root, crates):
-        return True
-    say("proving the crates as they stand")
-    done = subprocess.run(["rt", "check", *crates], cwd=root, text=True,
-                          stdout=subprocess.PIPE, stderr=subprocess.STDOUT,
-                          stdin=subprocess.DEVNULL, check=False)
-    if done.returncode != 0:
-        print(done.stdout)
-    return done.returncode == 0
-
-
 def chosen_crates(root, named):
     """The crates to try: those named, or all that have edits."""
     listed = [path.name for path in sorted((root / "crates").iterdir())]
@@ -181,19 +162,14 @@ def main(kit, *words):
     root = Path.cwd()
     every = "--full" in words
     crates = chosen_crates(root, [w for w in words if w != "--full"])
-    if not proved(root, crates):
-        sys.exit("refuse: the crates are not proved as they stand")
-    prove = Prover(kit, root)
-    with trial.room() as place:
-        prove.learn_build(place)
-    run = Run(root, prove, crates)
+    run = Run(root, Prover(kit, root), crates)
     run.check_left_to_rt(crates)
     run.check_unedited()
     run.check_edits()
     both = run.check_full(every)
     say(f"{len(run.answers)} edits of {len(run.crates())} crates refused, "
-        f"{len(run.faults)} faults; {run.again} tried again alone, {both} by "
-        "rt must-fail too")
+        f"{len(run.faults)} faults; {run.mended} by proofs with their names, "
+        f"{run.again} tried again alone, {both} by rt must-fail too")
     return 1 if run.faults or not run.answers else 0
 
 

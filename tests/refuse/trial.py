@@ -1,25 +1,31 @@
 """Edits tried on a copy of their crate, and what that showed of each."""
+import re
 import shutil
 import subprocess
 import tempfile
 from contextlib import contextmanager
-from dataclasses import dataclass
+from dataclasses import dataclass, replace
 from pathlib import Path
 
 import edits
+import mend
 import prover
 
 UNPLACED = ("BAD EDIT: it has no 'at:' line, and changes no function's body "
             "alone")
+# What rt must-fail says of an edit that is refused: why only, and where first.
+RT_REFUSED = re.compile(r"refused, as it must be(?: \((only .*?)\))?(?:: (.*))?")
 
 
 @dataclass(frozen=True)
 class Answer:
     """What a trial showed of an edit: where it was refused first, or the
-    fault that makes it count for nothing."""
+    fault that makes it count for nothing; and whether the proofs were given
+    the edited code's names first."""
     edit: edits.Edit
     refusal: prover.Refusal = None
     fault: str = ""
+    mended: bool = False
 
 
 @contextmanager
@@ -34,19 +40,20 @@ def room():
 
 def stands_in(place, function, refusal):
     """Whether a refusal is one of the edit's: of what its place names, or of
-    the function whose body it changes."""
-    if place:
-        file, _, name = place.partition(" ")
-        return (f"{refusal.path}/".startswith(f"{file}/")
-                and refusal.text.startswith(f"`{name}`" if name else ""))
-    return (f"{refusal.path}/".startswith(f"{function.proof}/")
-            or refusal.path == function.file
-            and function.first < refusal.line <= function.end + 1)
+    the function that it names or whose body it changes. What a function's
+    proof files leave to the prover is refused in the source."""
+    if function:
+        return (f"{refusal.path}/".startswith(f"{function.proof}/")
+                or refusal.path == function.file
+                and function.first < refusal.line <= function.end + 1)
+    file, _, name = place.partition(" ")
+    return (f"{refusal.path}/".startswith(f"{file}/")
+            and refusal.text.startswith(f"`{name}`" if name else ""))
 
 
 def own_refusal(edit, function, outcome, alone):
     """The first refusal of an edit, or the fault. Alone it has to be the
-    first of all."""
+    first of all. A name that the edit took away shows nothing."""
     if not edit.at and not function:
         return Answer(edit, fault=UNPLACED)
     if outcome.status == 0:
@@ -55,14 +62,18 @@ def own_refusal(edit, function, outcome, alone):
         head = "\n".join(outcome.text.splitlines()[:5])
         return Answer(edit, fault="BAD EDIT: it did not reach the prover "
                       f"(exit {outcome.status})\n{head}")
-    own = [r for r in outcome.refusals if stands_in(edit.at, function, r)]
-    if not own or alone and own[0] != outcome.refusals[0]:
-        place = edit.at or function.proof
-        return Answer(edit, fault=f"refused, and not at {place} first; "
-                      f"{first(outcome)}")
-    if own[0].unfit:
+    placed = [r for r in outcome.refusals if stands_in(edit.at, function, r)]
+    own = [r for r in placed if not r.unfit]
+    if placed and not own:
         return Answer(edit, fault="BAD EDIT: only the proof file does not fit "
-                      f"any more, {own[0]}")
+                      f"any more, {placed[0]}")
+    if not own or alone and own[0] != first(outcome):
+        place = edit.at or function.proof
+        return Answer(edit, fault=f"refused, and not at {place} first; first "
+                      f"refused at {first(outcome) or 'nowhere'}")
+    if own[0].unread:
+        return Answer(edit, fault="BAD EDIT: the edited text cannot be read, "
+                      f"{own[0]}")
     if own[0].path in edit.files and own[0].path.startswith("specs/"):
         return Answer(edit, fault="BAD EDIT: what it makes is itself no "
                       f"definition, {own[0]}")
@@ -70,8 +81,8 @@ def own_refusal(edit, function, outcome, alone):
 
 
 def first(outcome):
-    where = outcome.refusals[0] if outcome.refusals else "nowhere"
-    return f"first refused at {where}"
+    """The first refusal but for names that an edit took away, or none."""
+    return next((r for r in outcome.refusals if not r.unfit), None)
 
 
 def unedited(prove, crate):
@@ -94,7 +105,7 @@ def make(group, folder):
     unedited one. The function of each, or the one that can't be made."""
     changed, found = {}, {}
     for edit in group:
-        changed[edit] = edits.body_of(edit, folder)
+        changed[edit] = edits.function_of(edit, folder)
         if not edit.at and not changed[edit]:
             return changed, Answer(edit, fault=UNPLACED)
         try:
@@ -124,7 +135,7 @@ def attempt(prove, group, logs):
         if bad:
             return [bad]
         try:
-            outcome = prove.check(crate, folder, incremental)
+            outcome, mended = mend.check(prove, crate, folder, incremental)
         except subprocess.TimeoutExpired:
             return [Answer(edit, fault="BAD EDIT: the prover does not end")
                     for edit in group]
@@ -134,18 +145,30 @@ def attempt(prove, group, logs):
         log.write_text(outcome.text)
     if len(group) > 1 and strays(changed, outcome):
         return []
-    return [own_refusal(edit, changed[edit], outcome, len(group) == 1)
+    return [replace(own_refusal(edit, changed[edit], outcome, len(group) == 1),
+                    mended=mended)
             for edit in group]
 
 
-def tried_by_rt(edit, root):
-    """What rt must-fail showed of an edit by itself, where it has tried it."""
-    place = root / "target/must-fail" / edit.crate
-    folder = place / edit.label
-    if not (folder / ".log").is_file():
+def said_by_rt(edit, said):
+    """What rt must-fail said of an edit, and its words on a refusal, if it is
+    one; nothing where it has not tried it."""
+    line = re.search(rf"^rt: must-fail {re.escape(edit.name)}\.edit: (.*)$",
+                     said, re.M)
+    return line and (line[1], RT_REFUSED.fullmatch(line[1]))
+
+
+def tried_by_rt(edit, root, said):
+    """What rt must-fail showed of an edit by itself, by what it said, which
+    names the first refusal alone; nothing where it has not tried it."""
+    by_rt = said_by_rt(edit, said)
+    if not by_rt:
         return None
-    refused = (place / f"{edit.label}.res").read_text().strip() == "refused"
-    text = (folder / ".log").read_text(errors="replace")
-    outcome = prover.outcome(1 if refused else 0, text, folder)
-    function = edits.body_of(edit, root / "crates" / edit.crate)
+    line, refused = by_rt
+    if not refused:
+        return Answer(edit, fault=line)
+    if refused[1]:
+        return Answer(edit, fault=f"BAD EDIT: refused {refused[1]}")
+    outcome = prover.outcome(1, f"{refused[2]}\nlogic=not-proved")
+    function = edits.function_of(edit, root / "crates" / edit.crate)
     return own_refusal(edit, function, outcome, True)

@@ -1,0 +1,74 @@
+"""Gives proofs the names that an edit of the code brings.
+
+The prover names a goal, and a step of a function, after the code: a test of
+`a > b` is `if-a-gt-b`, and of `a >= b` is `if-a-ge-b`. A proof that says the
+one does not fit the other, and shows nothing, so that it is given the names
+that the prover now asks for, and tried again. Nothing else of it changes.
+"""
+import difflib
+import re
+
+FIELD = re.compile(
+    r"(?:\./)?(proofs/\S+?):\d+:\d+: error: .* has no field `([^`]+)` "
+    r"\(nearest: \.([^\s,)]+)")
+GOAL = re.compile(
+    r"(?:\./)?(proofs/\S+?):\d+:\d+: error: .* has no `([^`]+)` that can be "
+    r"named from here")
+ASKS = re.compile(r"help: `\w+` has no `([^`]+)`; rattle asks for (.*)")
+# A proof that still does not fit then is left as it is.
+MOST = 4
+# How much of two names has to be the same: of `if-n-gt-LIMIT` and
+# `if-n-gt65521` it is 0.56.
+ALIKE = 0.5
+
+
+def asked(text):
+    """The names that the prover asks for, by the one that it does not have."""
+    return {said[1]: re.findall("`([^`]+)`", said[2])
+            for said in ASKS.finditer(text)}
+
+
+def renamed(text):
+    """By file, the names that have gone, each with the nearest there is that
+    is like it, but for one that another has taken."""
+    wanted, found = asked(text), {}
+    for line in text.splitlines():
+        said = FIELD.match(line) or GOAL.match(line)
+        if not said:
+            continue
+        file, old, *near = said.groups()
+        names = found.setdefault(file, {})
+        free = [name for name in near or wanted.get(old, [])
+                if name not in names.values()]
+        names |= {old: new for new in
+                  difflib.get_close_matches(old, free, 1, ALIKE)}
+    return found
+
+
+def whole(name):
+    return re.compile(rf"(?<![\w'-]){re.escape(name)}(?![\w'-])")
+
+
+def rename(path, names):
+    """Writes new names in a file, whole names alone, where it has none of
+    them yet; whether that changed it."""
+    before = text = path.read_text()
+    for old, new in names.items():
+        if not whole(new).search(text):
+            text = whole(old).sub(new, text)
+    path.write_text(text)
+    return text != before
+
+
+def check(prove, crate, folder, incremental):
+    """Checks an edited copy of a crate: what was said last, and whether its
+    proofs were given other names for it."""
+    outcome, mended = prove.check(crate, folder, incremental), False
+    for _ in range(MOST):
+        names = renamed(outcome.text) if outcome.refused else {}
+        if not [rename(folder / file, pairs) for file, pairs in names.items()
+                ].count(True):
+            break
+        mended = True
+        outcome = prove.check(crate, folder, incremental)
+    return outcome, mended
