@@ -3,7 +3,7 @@
 
 usage: python3 tools/port_edits.py LANDED [--only TEXT] [--keep FOLDER] [--dry]
 
-Run at the top of a repository right after /opt/rattle/port/port.py; LANDED is the commit that port.py was run on. Each
+Run at the top of a repository right after the kit's port.py; LANDED is the commit that port.py was run on. Each
 crates/*/edits/*.edit and crates/*/must-fail/*.edit of LANDED is made on scratch copies of LANDED, those that lie apart at once;
 port.py turns the copies, and what it makes of an edited file is compared with the ported file of the working tree. Edits that
 cannot be told from one another in a copy are made again, one in a file. Each edit is rewritten in place only where it, applied to
@@ -26,7 +26,8 @@ import subprocess
 import sys
 import tempfile
 
-PORT = "/opt/rattle/port"
+RT = shutil.which("rt") or sys.exit("rt is not on the PATH")
+PORT = os.path.join(os.path.dirname(os.path.dirname(os.path.realpath(RT))), "port")
 SIDE = 3  # copies turned side by side
 GAP = 4  # edits of one copy lie this many lines apart
 
