@@ -115,8 +115,8 @@ fn start(a: u64) -> State
 
 // All rotations of M and A.
 pub fn rotate(m: u64, a: u64) -> State
-    requires fact_1 { m ≤ H_units }
-    requires fact_2 { a ≤ one }
+    requires mean { m ≤ H_units }
+    requires shape { a ≤ one }
     ensures { result ≡ rotated m a }
 {
     let mut s = start(a);

@@ -18,13 +18,13 @@ loop-i-init c = record { within = zero-le; so_far = refl }
 
 pub sign-plus-requires : goal.sign-plus-requires
 sign-plus-requires c = record {
-  state = let w = c.loop-i.invariant in state_roomy _ _ _ c.requires.fact_2 w.within c.start-s.ensures w.so_far;
+  state = let w = c.loop-i.invariant in state_roomy _ _ _ c.requires.shape w.within c.start-s.ensures w.so_far;
   mean = omega arith;
 }
 
 pub turn-s-requires : goal.turn-s-requires
 turn-s-requires c = record {
-  state = let w = c.loop-i.invariant in state_roomy _ _ _ c.requires.fact_2 w.within c.start-s.ensures w.so_far;
+  state = let w = c.loop-i.invariant in state_roomy _ _ _ c.requires.shape w.within c.start-s.ensures w.so_far;
   shift = omega arith;
 }
 
