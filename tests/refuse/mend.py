@@ -15,6 +15,7 @@ GOAL = re.compile(
     r"(?:\./)?(proofs/\S+?):\d+:\d+: error: .* has no `([^`]+)` that can be "
     r"named from here")
 ASKS = re.compile(r"help: `\w+` has no `([^`]+)`; rattle asks for (.*)")
+OFFERS = re.compile(r"\((?:names in it that begin alike:|did you mean) ([^)]*)\)")
 # A proof that still does not fit then is left as it is.
 MOST = 4
 # How much of two names has to be the same: of `if-n-gt-LIMIT` and
@@ -28,6 +29,12 @@ def asked(text):
             for said in ASKS.finditer(text)}
 
 
+def offered(line):
+    """Names that the prover has in the place of the one that is gone."""
+    said = OFFERS.search(line)
+    return re.findall("`([^`]+)`", said[1]) if said else []
+
+
 def renamed(text):
     """By file, the names that have gone, each with the nearest there is that
     is like it, but for one that another has taken."""
@@ -38,7 +45,7 @@ def renamed(text):
             continue
         file, old, *near = said.groups()
         names = found.setdefault(file, {})
-        free = [name for name in near or wanted.get(old, [])
+        free = [name for name in near or wanted.get(old) or offered(line)
                 if name not in names.values()]
         names |= {old: new for new in
                   difflib.get_close_matches(old, free, 1, ALIKE)}
