@@ -17,7 +17,7 @@ GOAL = re.compile(
 ASKS = re.compile(r"help: `\w+` has no `([^`]+)`; rattle asks for (.*)")
 OFFERS = re.compile(r"\((?:names in it that begin alike:|did you mean) ([^)]*)\)")
 # A proof that still does not fit then is left as it is.
-MOST = 4
+MOST = 8
 # How much of two names has to be the same: of `if-n-gt-LIMIT` and
 # `if-n-gt65521` it is 0.56.
 ALIKE = 0.5
@@ -35,9 +35,13 @@ def offered(line):
     return re.findall("`([^`]+)`", said[1]) if said else []
 
 
-def renamed(text):
+def whole(name):
+    return re.compile(rf"(?<![\w'-]){re.escape(name)}(?![\w'-])")
+
+
+def renamed(text, folder):
     """By file, the names that have gone, each with the nearest there is that
-    is like it, but for one that another has taken."""
+    is like it, but for one that another has taken or that the file has."""
     wanted, found = asked(text), {}
     for line in text.splitlines():
         said = FIELD.match(line) or GOAL.match(line)
@@ -45,24 +49,21 @@ def renamed(text):
             continue
         file, old, *near = said.groups()
         names = found.setdefault(file, {})
+        proof = (folder / file).read_text()
         free = [name for name in near or wanted.get(old) or offered(line)
-                if name not in names.values()]
-        names |= {old: new for new in
-                  difflib.get_close_matches(old, free, 1, ALIKE)}
+                if name not in names.values()
+                and not whole(name).search(proof)]
+        names |= {old: new for new in difflib.get_close_matches(
+            old, free, 1, 0 if near else ALIKE)}
     return found
 
 
-def whole(name):
-    return re.compile(rf"(?<![\w'-]){re.escape(name)}(?![\w'-])")
-
-
 def rename(path, names):
-    """Writes new names in a file, whole names alone, where it has none of
-    them yet; whether that changed it."""
+    """Writes new names in a file, whole names alone; whether that changed
+    it."""
     before = text = path.read_text()
     for old, new in names.items():
-        if not whole(new).search(text):
-            text = whole(old).sub(new, text)
+        text = whole(old).sub(new, text)
     path.write_text(text)
     return text != before
 
@@ -72,7 +73,7 @@ def check(prove, crate, folder, incremental):
     proofs were given other names for it."""
     outcome, mended = prove.check(crate, folder, incremental), False
     for _ in range(MOST):
-        names = renamed(outcome.text) if outcome.refused else {}
+        names = renamed(outcome.text, folder) if outcome.refused else {}
         if not [rename(folder / file, pairs) for file, pairs in names.items()
                 ].count(True):
             break
