@@ -133,14 +133,20 @@ def replacement(folder, file, old, new):
 
 
 def replacements(edit, folder):
-    """An edit's replacements, by file."""
+    """An edit's replacements, by file. rt makes one pair after the other, so
+    that a text has to stand once in what those before it left too."""
     if not edit.pairs:
         raise BadEdit("it has no 'old:' and 'new:' pair")
     if all(old == new for _, old, new in edit.pairs):
         raise BadEdit("it changes nothing")
-    found = {}
+    found, texts = {}, {}
     for file, old, new in edit.pairs:
         found.setdefault(file, []).append(replacement(folder, file, old, new))
+        text = texts.get(file) or (folder / file).read_text()
+        if text.count(old) != 1:
+            raise BadEdit(f"an 'old:' text is in {file} {text.count(old)} "
+                          "times after the pairs before it")
+        texts[file] = text.replace(old, new)
     return found
 
 

@@ -121,6 +121,9 @@ EDITS = {
                                 ""),
     "one/of_another_function": (f"{SOURCE} seven", SOURCE, "    seven()", "    5",
                                 f"not at {SOURCE} seven first"),
+    "one/twice_by_its_first_pair": (
+        "", SOURCE, "    n", "    let n = 7;\nold: let n = 7;\nnew: let n = 8;",
+        "2 times after the pairs before it"),
     "one/test_renamed": ("", SOURCE, "a > 5", "a >= 5", ACCEPTED),
     "one/test_renamed_and_wrong": ("", SOURCE, "a > 5", "a > 6", ""),
     "one/not_compiled": (SOURCE, SOURCE, "    n", "    m", UNREACHED),

@@ -30,6 +30,7 @@ pub fn answer_file(input: &[u8], answers: &mut [u8; MOST_CLAIMS]) -> usize
 }
 
 // Reads until `input` is full or the reader has no more bytes, and returns how many stand at the start of `input`.
+// `read_to_end` would take a heap, and `read_exact` says nothing of the bytes of a shorter input.
 fn read_full<R: Read>(reader: &mut R, input: &mut [u8]) -> io::Result<usize>
     ensures within { ReadsAtMost result input.new }
     ensures bytes { IfOk result (λ n. Consumes (R.remaining reader.old) (R.remaining reader.new) (take n input.new)) }

@@ -16,9 +16,9 @@ use Rattle.judge.specs.Verdict.{verdict_number}
 use Rattle.judge.specs.declared.Judged.{Judged}
 use Rattle.judge.proofs.CodeAnswers.{of_judged}
 use Rattle.little.proofs.Digits.{little_small}
+use Rattle.claims.specs.Form.{Form}
 use Rattle.claims.specs.Record.{reserved_check, claim_at, answer_at}
 use Rattle.claims.specs.AnswerByte.{AnswerByte, of_verdict, of_reserved, of_m, of_a, of_depth, of_estimate}
-use Rattle.claims.specs.declared.form.Form.{Form}
 
 -- the code where there is one, else the verdict's number
 abbrev pub byte_of : Judged → ℕ

@@ -11,9 +11,9 @@ use borrow.Author.Tests.{ltb-true, ltb-false}
 use lib.Dec.{ltb}
 use lib.ListN.{length, drop, get_or, length-append, length-drop, get_or-append}
 use lib.Seq.{get_or_at, get_or-append-add, get_or-drop, ext_get_or}
+use Rattle.claims.specs.Form.{Form}
 use Rattle.claims.specs.Record.{answer_at}
 use Rattle.claims.specs.Batch.{batch_rule, up_to, written, answers_after}
-use Rattle.claims.specs.declared.form.Form.{Form}
 use Rattle.claims.proofs.BatchCount.{count_fits, refused_count}
 
 pub length_up_to : (f : ℕ → ℕ) (n : ℕ) → length (up_to f n) ≡ n

@@ -1,29 +1,41 @@
 -- R51: what a batch returns in each of its cases, and its count. Assumes nothing.
-use mathlib.Core.Path.{◌≡◌, refl}
-use Prim.Native.Nat.{ℕ, ◌*◌, ◌%◌, ◌/◌, ◌≤◌, ◌<◌, zero-le}
+use mathlib.Core.Path.{◌≡◌, refl, sym, ap, ◌∙◌}
+use Prim.Native.Nat.{ℕ, ◌*◌, ◌%◌, ◌/◌, ◌≤◌, zero-le}
 use native.Mathlib.Nat.{div-add-mod'}
 use native.Mathlib.Omega.{arith}
-use borrow.Author.Tests.{eq-eqb, ne_eqb, lt-ltb, le-ltb, eqb-true, ltb-false, not-false}
-use Rattle.grid.proofs.Refuses.{Makes, makes}
+use borrow.Author.Tests.{eq-eqb, ne_eqb, le-ltb, eqb-true, ltb-false, not-false}
+use Rattle.std.specs.Prelude.{Result, Ok}
+use Rattle.grid.specs.Refuses.{Refuses}
+use Rattle.grid.specs.declared.codes.Refusal.{Refusal}
+use Rattle.grid.proofs.FirstCode.{made, answers}
+use Rattle.grid.proofs.Refuses.{makes}
 use Rattle.grid.proofs.Outcomes.{of_checked}
-use Rattle.claims.specs.Batch.{batch_checks, batch_with, batch_rule}
+use Rattle.claims.specs.Form.{Form}
+use Rattle.claims.specs.Batch.{batch_checks, coded_count, batch_with, batch_answer, batch_rule}
 use Rattle.claims.specs.declared.Batch.{Batch}
-use Rattle.claims.specs.declared.form.Form.{Form}
 
 module _ (form : Form) (bytes room : ℕ) where
   pub rule_length : (bytes % form.width ≡ 0 → ⊥) → batch_with 7 0 ≡ batch_rule form bytes room
   unfolding batch_rule
   rule_length h = simp (ne_eqb _ _ h)
 
-  pub rule_short : bytes % form.width ≡ 0 → room < bytes / form.width
-      → batch_with 8 0 ≡ batch_rule form bytes room
-  unfolding batch_rule
-  rule_short e h = simp (eq-eqb _ _ e, lt-ltb _ _ h)
-
   pub rule_done : bytes % form.width ≡ 0 → bytes / form.width ≤ room
       → batch_with 0 (bytes / form.width) ≡ batch_rule form bytes room
   unfolding batch_rule
   rule_done e h = simp (eq-eqb _ _ e, le-ltb _ _ h)
+
+  -- what the code returns of it is the batch's answer
+  pub returned : {r : Result ℕ Refusal} → r ≡ coded_count form bytes room → batch_answer r ≡ batch_rule form bytes room
+  unfolding batch_rule
+  returned e =
+      ap batch_answer e
+      ∙ answers (λ k. batch_with k 0) (batch_with 0) (bytes / form.width) (batch_checks form bytes room)
+
+  -- where claims are counted, each has a place for its answer
+  pub count_is : {n : ℕ} → Ok n ≡ coded_count form bytes room → (n ≡ bytes / form.width) × (bytes / form.width ≤ room)
+  count_is e =
+      let (passed, same) = made (bytes / form.width) (batch_checks form bytes room) (sym e) in
+      (same, ltb-false _ _ passed.1.0)
 
   -- what holds of both refusals, and of what is returned where neither test fails, holds of what the batch returns
   pub of_batch : (P : Batch → Type 0) → P (batch_with 7 0) → P (batch_with 8 0)
@@ -52,5 +64,8 @@ module _ (form : Form) (bytes room : ℕ) where
       (λ e h z. absurd (z refl))
 
 pub batches : (form : Form) (bytes room : ℕ)
-    → Makes (batch_checks form bytes room) (λ (r : Batch). r.code) (λ k. batch_with k 0) (batch_with 0 (bytes / form.width))
-batches form bytes room = makes refl (λ k. refl) tt
+    → Refuses (batch_checks form bytes room) (λ (r : Batch). r.code) (λ k. batch_with k 0) (batch_rule form bytes room)
+unfolding batch_rule
+batches form bytes room =
+    makes (batch_checks form bytes room) (λ (r : Batch). r.code) (λ k. batch_with k 0) (batch_with 0 (bytes / form.width)) refl (λ k. refl)
+    tt

@@ -2,4 +2,5 @@ pub mod AnswerBytes
 pub mod BatchCount
 pub mod AnswersBuffer
 pub mod CodeNanPatterns
+pub mod OneRecord
 pub mod CodeBatch

@@ -2,7 +2,16 @@
 use Rattle.std.specs.Prelude.{ℕ, ◌+◌, ◌≤◌, ◌<◌, List}
 use Rattle.little.specs.LittleEndian.{little_endian}
 use Rattle.claims.specs.declared.form.Field.{Field}
-use Rattle.claims.specs.declared.form.Form.{Form}
+
+-- R49: a record's width, and where its fields stand
+pub record Form : Type 0 where
+  pub width : ℕ
+  pub m : Field
+  pub a : Field
+  pub estimate : Field
+  pub n : Field
+  pub depth : Field
+  pub reserved : Field
 
 -- R49: the record of 20 bytes
 abbrev pub twenty : Form

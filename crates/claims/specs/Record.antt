@@ -3,12 +3,12 @@ use Rattle.std.specs.Prelude.{ℕ, ◌*◌, not, List, ◌∷◌, eqb}
 use Rattle.std.specs.Float.{binary64}
 use Rattle.std.specs.Float.Ieee.{of_bits}
 use Rattle.little.specs.LittleEndian.{twos_complement}
-use Rattle.grid.specs.Codes.{Check, bad_reserved, checked}
+use Rattle.grid.specs.Codes.{Check, checked}
+use Rattle.grid.specs.declared.codes.Refusal.TheVariants.{BadReserved}
 use Rattle.orbit.specs.Given.{grid}
 use Rattle.judge.specs.Verdict.{verdict_number}
 use Rattle.judge.specs.Judge.{Claim, claim_checks, case_at, case_verdict}
-use Rattle.claims.specs.Form.{value_of}
-use Rattle.claims.specs.declared.form.Form.{Form}
+use Rattle.claims.specs.Form.{Form, value_of}
 
 -- R49: the claim of the record that starts at a place; M is in two's complement, and to `of_bits` every NaN pattern is the one NaN
 abbrev pub claim_from : Form → List ℕ → ℕ → Claim
@@ -23,7 +23,7 @@ claim_from form bytes start =
 -- R5: code 9, a reserved byte other than zero
 abbrev pub reserved_check : Form → List ℕ → ℕ → Check
 reserved_check form bytes start =
-    record { fails = not (eqb (value_of bytes start form.reserved) 0); code = bad_reserved }
+    record { fails = not (eqb (value_of bytes start form.reserved) 0); code = BadReserved }
 
 -- R49: record i is the one that starts at i times the width
 abbrev pub claim_at : Form → List ℕ → ℕ → Claim

@@ -1,5 +1,7 @@
 // R49: the form of a claim's record, as a value that code and definitions share: its width, and where its fields stand.
 
+use std::marker::Model;
+
 // The first byte of a field, and how many it has.
 #[derive(Clone, Copy)]
 pub struct Field {
@@ -16,6 +18,35 @@ pub struct Form {
     pub n: Field,
     pub depth: Field,
     pub reserved: Field,
+}
+
+// Every form can be read: its fields lie in the record, and fit the numbers that they are read to.
+impl Model for Form {
+    ghost use Rattle.claims.specs.Form as forms;
+
+    ghost Value = { forms.Form };
+
+    ghost view = { λ f. record {
+      width = f.width;
+      m = f.m;
+      a = f.a;
+      estimate = f.estimate;
+      n = f.n;
+      depth = f.depth;
+      reserved = f.reserved;
+    } };
+
+    ghost invariant = { λ f. forms.FormIn (view f) };
+
+    ghost inverse = { λ f. record {
+      width = f.width;
+      m = f.m;
+      a = f.a;
+      estimate = f.estimate;
+      n = f.n;
+      depth = f.depth;
+      reserved = f.reserved;
+    } };
 }
 
 // The record of 20 bytes.

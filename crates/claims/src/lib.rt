@@ -2,11 +2,12 @@
 #![tactic(auto)]
 
 ghost use Rattle.std.specs.Prelude.{◌≡◌, length};
-ghost use Rattle.claims.specs.Form.{FormIn, twenty};
-ghost use Rattle.claims.specs.Batch.{batch_rule, answers_after};
+ghost use Rattle.claims.specs.Form.{twenty};
+ghost use Rattle.claims.specs.Batch.{coded_count, batch_answer, batch_rule, answers_after};
 
 use form::Form;
 use grid::codes;
+use grid::codes::Refusal;
 
 pub mod form;
 mod record;
@@ -19,47 +20,50 @@ pub struct Batch {
     pub count: u64,
 }
 
-// What a batch over so many bytes of claims and so many of answers returns.
-fn batch_of(form: Form, bytes: usize, room: usize) -> Batch
-    requires { FormIn form }
-    ensures { result ≡ batch_rule form bytes room }
-{
-    let width = form.width;
-    if bytes % width != 0 {
-        return Batch {
-            code: codes::BAD_LENGTH,
-            count: 0,
-        };
-    }
-    let count = bytes / width;
-    if room < count {
-        return Batch {
-            code: codes::SHORT_ANSWERS,
-            count: 0,
-        };
-    }
-    Batch {
-        code: codes::DONE,
-        count: count as u64,
+impl From<Result<usize, Refusal>> for Batch {
+    ghost from_gives = { λ known batch. batch ≡ batch_answer known };
+
+    fn from(known: Result<usize, Refusal>) -> Self {
+        match known {
+            Ok(count) => Batch {
+                code: codes::DONE,
+                count: count as u64,
+            },
+            Err(refusal) => Batch {
+                code: refusal.code(),
+                count: 0,
+            },
+        }
     }
 }
 
-// Judges the records of `claims`, all of one form, and writes one byte for each to the start of `answers`: none where the
-// batch is refused, since its count is 0 then.
-fn judge_records(form: Form, claims: &[u8], answers: &mut [u8]) -> Batch
-    requires { FormIn form }
-    ensures value { result ≡ batch_rule form (length claims.now) (length answers.old) }
+// R51: how many claims so many bytes hold, where each has a place for its answer among so many, or why they are not counted: code
+// 7, then 8.
+fn batch_of(form: Form, bytes: usize, room: usize) -> Result<usize, Refusal>
+    ensures { result ≡ coded_count form bytes room }
+{
+    let width = form.width;
+    if bytes % width != 0 {
+        return Err(Refusal::BadLength);
+    }
+    let count = bytes / width;
+    if room < count {
+        return Err(Refusal::ShortAnswers);
+    }
+    Ok(count)
+}
+
+// Judges the records of `claims`, all of one form, writes one byte for each to the start of `answers`, and returns how many: none
+// is written where the batch is refused.
+fn judge_records(form: Form, claims: &[u8], answers: &mut [u8]) -> Result<usize, Refusal>
+    ensures value { result ≡ coded_count form (length claims.now) (length answers.old) }
     ensures answers_after { answers.new ≡ answers_after form claims.now answers.old }
 {
-    let batch = batch_of(form, claims.len(), answers.len());
-    let count = batch.count as usize;
-    let mut i = 0;
-    while i < count {
-        let byte = record::answer_byte(form, claims, i);
-        answers[i] = byte;
-        i += 1;
+    let count = batch_of(form, claims.len(), answers.len())?;
+    for (i, bytes) in claims.chunks_exact(form.width).enumerate() {
+        answers[i] = record::answer_byte(form, bytes);
     }
-    batch
+    Ok(count)
 }
 
 // R51: the batch over records of 20 bytes.
@@ -67,5 +71,5 @@ pub fn judge_claims(claims: &[u8], answers: &mut [u8]) -> Batch
     ensures value { result ≡ batch_rule twenty (length claims.now) (length answers.old) }
     ensures answers_after { answers.new ≡ answers_after twenty claims.now answers.old }
 {
-    judge_records(form::TWENTY, claims, answers)
+    Batch::from(judge_records(form::TWENTY, claims, answers))
 }

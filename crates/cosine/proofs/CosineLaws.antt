@@ -16,7 +16,7 @@ use Rattle.series.proofs.TermLimits.{Q_within}
 use Rattle.series.proofs.BoundsTrue.{greatest_true, least_true}
 use Rattle.series.proofs.Width.{Q_gap, gap_step, within_5}
 use Rattle.cosine.specs.Cosine.{cosine, CosLo, CosHi, C, den_c}
-use Rattle.cosine.proofs.CosineTerms.{divisor_is, cosine_divides, from_12, T_fall, l_within, u10_within}
+use Rattle.cosine.proofs.OfCosine.{divisor_is, cosine_divides, from_12, T_fall, l_within, u10_within}
 
 -- R72: against the exact sums
 pub CosLo-true : (X d : ℕ) → X ≤ T_units → d ≤ depths → (CosLo X d *ℤ pos (den_c 9)) ≤ℤ C X 9

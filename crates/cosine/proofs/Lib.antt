@@ -1,2 +1,2 @@
-pub mod CosineTerms
+pub mod OfCosine
 pub mod CosineLaws

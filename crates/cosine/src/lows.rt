@@ -1,9 +1,9 @@
 // Lo of sine and of cosine at depth 5, at one angle.
 ghost use Rattle.std.specs.Prelude.{◌≡◌};
-ghost use Rattle.grid.specs.Limits.{AngleIn};
 ghost use Rattle.cosine.specs.Lows.{lows_at};
 
 use grid::Angle;
+use series::Walk;
 
 // Both, biased as the series' bounds are.
 #[derive(Clone, Copy)]
@@ -15,20 +15,19 @@ pub struct Lows {
 // The two walks go side by side, so that a processor makes them at once. All of their pairs' divisors are written out, so that the
 // quotients are products.
 pub fn at(x: Angle) -> Lows
-    requires { AngleIn x }
-    ensures { result ≡ lows_at x.units }
+    ensures { result ≡ lows_at x }
 {
     let angle = x.units;
-    let mut s = series::deepen(series::begin(angle, angle), 6, 20);
-    let mut c = series::deepen(series::begin(angle, grid::ONE), 2, 12);
-    s = series::deepen(s, 42, 72);
-    c = series::deepen(c, 30, 56);
-    s = series::deepen(s, 110, 156);
-    c = series::deepen(c, 90, 132);
-    s = series::deepen(s, 210, 272);
-    c = series::deepen(c, 182, 240);
-    s = series::deepen(s, 342, 420);
-    c = series::deepen(c, 306, 380);
+    let mut s = Walk::begin(angle, angle).deepen(6, 20);
+    let mut c = Walk::begin(angle, grid::ONE).deepen(2, 12);
+    s = s.deepen(42, 72);
+    c = c.deepen(30, 56);
+    s = s.deepen(110, 156);
+    c = c.deepen(90, 132);
+    s = s.deepen(210, 272);
+    c = c.deepen(182, 240);
+    s = s.deepen(342, 420);
+    c = c.deepen(306, 380);
     Lows {
         sine: s.greatest,
         cosine: c.greatest,

@@ -1,12 +1,13 @@
 -- What the entry `distance` answers for what is given and an estimate, R67 and R68.
-use Rattle.std.specs.Prelude.{ℕ, ◌-◌, max, List, [], ◌∷◌, ◌++◌, Float}
+use Rattle.std.specs.Prelude.{ℕ, ◌-◌, max, List, [], ◌∷◌, ◌++◌, Float, Result}
 use Rattle.grid.specs.Grid.{depths}
-use Rattle.grid.specs.Codes.{Check, number, done, checked}
+use Rattle.grid.specs.Codes.{Check, number, done, checked, allowed, answer}
+use Rattle.grid.specs.declared.codes.Refusal.{Refusal}
 use Rattle.units.specs.Units.{mirror_double, estimate_check, floor_and_ceiling}
 use Rattle.units.specs.declared.Units.{Units}
 use Rattle.orbit.specs.Given.{Given, mirrored_of, cell_of, checks_of}
+use Rattle.enclosure.specs.Halving.{Found}
 use Rattle.enclosure.specs.Enclosure.{found_ends}
-use Rattle.enclosure.specs.declared.Found.{Found}
 use Rattle.distance.specs.declared.Off.{Off}
 
 -- R67: the greatest of a - c, f - b and 0: a difference of naturals is 0 where it would fall below
@@ -32,6 +33,14 @@ no_distance code = record { code = code; least = 0; most = 0 }
 -- R68: codes 1, 2 and 4, in that order
 abbrev pub distance_checks : Given → Float → List Check
 distance_checks g x = checks_of g ++ estimate_check (mirror_double (mirrored_of g) x) ∷ []
+
+-- R68: the first code that applies, or the distances by the ends found at depth 5
+abbrev pub distance_known : Given → Float → Result Off Refusal
+distance_known g x = allowed (distance_checks g x) (off_by (found_ends (cell_of g) depths) (units_of g x))
+
+-- R68: as the entry says it
+abbrev pub distance_answer : Result Off Refusal → Off
+distance_answer = answer no_distance (λ r. r)
 
 -- R68: the first code that applies, and where none does the distances by the ends found at depth 5
 unfoldable pub distance_rule : Given → Float → Off

@@ -1,15 +1,14 @@
 // How far from the root of Kepler's equation an estimate certainly is: at least, and at most.
 #![tactic(auto)]
 
-ghost use Rattle.std.specs.Prelude.{◌≡◌, max};
-ghost use Rattle.orbit.specs.Given.{grid, doubles};
-ghost use Rattle.orbit.specs.Posed.{ByCell, CodedCellIn};
-ghost use Rattle.distance.specs.Distance.{off_by, distance_rule};
-ghost use Rattle.distance.specs.Limits.{OffIn};
+ghost use Rattle.std.specs.Prelude.{◌≡◌};
+ghost use Rattle.units.specs.Limits.{UnitsIn};
+ghost use Rattle.distance.specs.Distance.{off_by, distance_known, distance_answer, distance_rule};
 
 use enclosure::Found;
+use grid::codes::Refusal;
 use grid::{Angle, Depth, codes};
-use orbit::{Cell, CodedCell, Problem};
+use orbit::pose::{Given, Problem};
 use units::Units;
 
 // A code, and with code 0 the least and the greatest distance from the root, in units.
@@ -21,62 +20,53 @@ pub struct Off {
     pub most: u32,
 }
 
-fn greater(x: u64, y: u64) -> u64
-    ensures { result ≡ max x y }
-{
-    if x <= y { y } else { x }
-}
-
 // R67: the distances of an estimate by the ends that were found.
 fn off_by(found: Found, u: Units) -> Off
-    requires { OffIn found u }
+    requires { UnitsIn u }
     ensures { result ≡ off_by found u }
 {
-    let a = found.a as u64;
-    let b = found.b as u64;
-    let below = grid::step_down(a, u.ceiling);
-    let above = grid::step_down(u.floor, b);
-    let from_a = grid::step_down(u.ceiling, a);
-    let from_b = grid::step_down(b, u.floor);
+    let a = found.a;
+    let b = found.b;
+    let least = grid::step_down(a, u.ceiling).max(grid::step_down(u.floor, b));
+    let most = grid::step_down(u.ceiling, a).max(grid::step_down(b, u.floor));
     Off {
         code: codes::DONE,
-        least: greater(below, above) as u32,
-        most: greater(from_a, from_b) as u32,
+        least: least as u32,
+        most: most as u32,
     }
 }
 
-// R68: the distance from the root of whatever was given, or its code. On the mirror the estimate is mirrored.
-fn distance_posed(posed: CodedCell, estimate: f64) -> Off
-    requires { CodedCellIn posed }
-    ensures { ByCell posed (λ g. distance_rule g estimate) result }
+// R68: the distances, or why there are none: code 1, 2, then 4. On the mirror the estimate is mirrored.
+#[tactic(auto, using(units::proofs::Rounding::estimate_fits))]
+fn posed_off<G: Given>(given: G, estimate: f64) -> Result<Off, Refusal>
+    ensures { result ≡ distance_known (G.given given) estimate }
 {
+    let posed = given.pose()?;
     let value = units::mirror(estimate, posed.mirrored);
-    let made = units::in_units(value, Angle::T, codes::BAD_ESTIMATE);
-    let code = codes::earlier(posed.code, made.code);
-    if code != codes::DONE {
-        return Off {
-            code,
-            least: 0,
-            most: 0,
-        };
-    }
-    let cell = posed.cell;
+    let u = units::in_units(value, Angle::T, Refusal::BadEstimate)?;
+    let cell = posed.of;
     let depth = Depth {
         pairs: Depth::GREATEST,
     };
-    off_by(enclosure::find_ends(Problem { cell, depth }), made.units)
+    let found = enclosure::find_ends(Problem { cell, depth });
+    Ok(off_by(found, u))
 }
 
-// R68: of M and A, or the code of what is out of limits: 1, 2, then 4.
-pub fn distance(m: i32, a: u32, estimate: f64) -> Off
-    ensures { result ≡ distance_rule (grid m a) estimate }
-{
-    distance_posed(Cell::new(m, a), estimate)
+impl From<Result<Off, Refusal>> for Off {
+    ghost from_gives = { λ known r. r ≡ distance_answer known };
+
+    fn from(known: Result<Off, Refusal>) -> Self {
+        known.unwrap_or_else(|refusal| Off {
+            code: refusal.code(),
+            least: 0,
+            most: 0,
+        })
+    }
 }
 
-// R60: the same of M in radians and e as doubles.
-pub fn distance_double(m: f64, e: f64, estimate: f64) -> Off
-    ensures { result ≡ distance_rule (doubles m e) estimate }
+// R68: the distances from the root of whatever is given, or the code of what is out of limits.
+pub fn distance<G: Given>(given: G, estimate: f64) -> Off
+    ensures { result ≡ distance_rule (G.given given) estimate }
 {
-    distance_posed(Cell::of_doubles(m, e), estimate)
+    Off::from(posed_off(given, estimate))
 }

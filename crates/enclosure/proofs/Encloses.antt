@@ -12,12 +12,13 @@ use lib.Dec.{T, T_not, lit≤, lit<}
 use lib.IntN.{ℤ, pos, negsuc, nat_abs}
 use Rattle.whole.proofs.Bools.{passes, not_failed}
 use Rattle.grid.specs.Grid.{H_units, T_units, depths}
-use Rattle.grid.specs.Codes.{Passed, checked, bad_m, limit_check, a_check, depth_check}
-use Rattle.grid.proofs.FirstCode.{split, only_last, join}
-use Rattle.grid.proofs.Refuses.{Makes, makes}
-use Rattle.orbit.specs.Cell.{grid_cell, CellIn}
+use Rattle.grid.specs.Codes.{Passed, checked, limit_check, a_check, depth_check}
+use Rattle.grid.specs.Refuses.{Refuses}
+use Rattle.grid.specs.declared.codes.Refusal.TheVariants.{BadM}
+use Rattle.grid.proofs.FirstCode.{goes, split, only_last, join}
+use Rattle.grid.proofs.Refuses.{makes}
+use Rattle.orbit.specs.Cell.{Cell, grid_cell, CellIn}
 use Rattle.orbit.specs.Given.{Given, grid, mirrored_of, cell_of, problem_checks, problem_at, ProblemIn}
-use Rattle.orbit.specs.declared.Cell.{Cell}
 use Rattle.orbit.proofs.Posed.{problem_in}
 use Rattle.ends.specs.Ends.{lower_end, upper_end}
 use Rattle.ends.proofs.Apart.{apart}
@@ -33,9 +34,10 @@ mirrored_done : (mirrored : Bool) (a b : ℕ) → (mirror_ends mirrored a b).cod
 mirrored_done true a b = refl
 mirrored_done false a b = refl
 
-pub enclosures : (g : Given) (d : ℕ)
-    → Makes (enclosure_checks g d) (λ (e : Enclosure). e.code) refusal (enclosed (mirrored_of g) (cell_of g) d)
-enclosures g d = makes (mirrored_done (mirrored_of g) _ _) (λ k. refl) tt
+pub enclosures : (g : Given) (d : ℕ) → Refuses (enclosure_checks g d) (λ (e : Enclosure). e.code) refusal (enclosure_rule g d)
+enclosures g d =
+    makes (enclosure_checks g d) (λ (e : Enclosure). e.code) refusal (enclosed (mirrored_of g) (cell_of g) d)
+    (mirrored_done (mirrored_of g) _ _) (λ k. refl) tt
 
 -- what code 0 says: the problem is within its limits, T is an upper end, and both ends are the searches'
 pub record CodeZero (g : Given) (d : ℕ) : Type 0 where
@@ -45,18 +47,19 @@ pub record CodeZero (g : Given) (d : ℕ) : Type 0 where
 
 pub code_zero : (g : Given) (d : ℕ) → (enclosure_rule g d).code ≡ 0 → CodeZero g d
 code_zero g d z =
-    let (p, q) = split (problem_checks g d) (T_check (cell_of g) d ∷ []) ((enclosures g d).demand.passed.0 z) in
+    let all = (enclosures g d).passed.0 z in
+    let (p, q) = split (problem_checks g d) (T_check (cell_of g) d ∷ []) all in
     record {
       problem = problem_in g d p;
       top = not_failed (upper_end (cell_of g) d T_units) (λ n. subst T q.0 n);
-      ends = ((enclosures g d).says (enclosure_rule g d) refl).made z;
+      ends = goes (enclosure_checks g d) all refusal (enclosed (mirrored_of g) (cell_of g) d);
     }
 
 -- R28: no code 6 from depth 4 on
 pub never_six : (g : Given) (d : ℕ) → 4 ≤ d → (enclosure_rule g d).code ≡ 6 → ⊥
 never_six g d h six =
     let (p, q) =
-    only_last 6 (problem_checks g d) (T_check (cell_of g) d) tt (((enclosures g d).demand.coded 6 (λ e. omega arith)).0 six) in
+    only_last 6 (problem_checks g d) (T_check (cell_of g) d) tt (((enclosures g d).coded 6 (λ e. omega arith)).0 six) in
     let i = (problem_in g d p).cell.mean in
     T_not (upper_end (cell_of g) d T_units) (subst T (sym q) tt) (T_upper (cell_of g) d (omega arith) h)
 
@@ -65,7 +68,7 @@ pub always : (g : Given) → Passed (problem_checks g depths) → (enclosure_rul
 always g p =
     let i = (problem_in g depths p).cell.mean in
     let t = T_upper (cell_of g) depths (omega arith) (omega arith) in
-    (enclosures g depths).demand.passed.1
+    (enclosures g depths).passed.1
     (join (problem_checks g depths) (T_check (cell_of g) depths ∷ []) p (sym (ap not (passes (upper_end (cell_of g) depths T_units) t)), tt))
 
 -- ---- R29
@@ -138,7 +141,7 @@ module _ (m d : ℕ) (h : m ≤ H_units) where
 
   -- with the sign of M
   circle_checked : (mirrored : Bool) → 1 ≤ d → d ≤ depths
-      → checked (limit_check m H_units bad_m ∷ a_check 0 ∷ depth_check d ∷ T_check (grid_cell m 0) d ∷ []) refusal (enclosed mirrored (grid_cell m 0) d)
+      → checked (limit_check m H_units BadM ∷ a_check 0 ∷ depth_check d ∷ T_check (grid_cell m 0) d ∷ []) refusal (enclosed mirrored (grid_cell m 0) d)
       ≡ mirror_ends mirrored m m
   circle_checked mirrored l r =
       simp (le-ltb H_units m h, le-ltb d 1 l, le-ltb depths d r, is_yes (upper_end (grid_cell m 0) d T_units) circle_top, circle_a r, circle_b)

@@ -3,4 +3,3 @@ pub mod Searches
 pub mod Encloses
 pub mod Narrow
 pub mod CodeLoop
-pub mod CodeAnswer

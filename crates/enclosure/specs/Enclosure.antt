@@ -1,17 +1,19 @@
 -- What the entry `enclose` answers for what is given and a depth, R26 to R28 and R31.
-use Rattle.std.specs.Prelude.{ℕ, Bool, true, false, not, List, [], ◌∷◌, ◌++◌, pos, neg_ℤ}
+use Rattle.std.specs.Prelude.{ℕ, Bool, true, false, not, List, [], ◌∷◌, ◌++◌, pos, neg_ℤ, Result}
 use Rattle.grid.specs.Grid.{T_units}
-use Rattle.grid.specs.Codes.{Check, number, done, no_upper_end, checked}
+use Rattle.grid.specs.Codes.{Check, number, done, checked, allowed, answer}
+use Rattle.grid.specs.declared.codes.Refusal.{Refusal}
+use Rattle.grid.specs.declared.codes.Refusal.TheVariants.{NoUpperEnd}
 use Rattle.orbit.specs.Given.{Given, mirrored_of, cell_of, problem_checks}
-use Rattle.orbit.specs.declared.Cell.{Cell}
+use Rattle.orbit.specs.Cell.{Cell}
+use Rattle.orbit.specs.declared.pose.Posed.{Posed}
 use Rattle.ends.specs.Ends.{lower_end, upper_end}
 use Rattle.enclosure.specs.declared.Enclosure.{Enclosure}
-use Rattle.enclosure.specs.declared.Found.{Found}
-use Rattle.enclosure.specs.Halving.{lower_search, upper_search}
+use Rattle.enclosure.specs.Halving.{Found, lower_search, upper_search}
 
 -- R5, R28: code 6, by the test of T
 abbrev pub T_check : Cell → ℕ → Check
-T_check c d = record { fails = not (upper_end c d T_units); code = no_upper_end }
+T_check c d = record { fails = not (upper_end c d T_units); code = NoUpperEnd }
 
 -- R31: the codes 1, 2, 3 and 6, in that order
 abbrev pub enclosure_checks : Given → ℕ → List Check
@@ -41,6 +43,18 @@ mirror_ends true a b = record { code = number done; lower = neg_ℤ (pos b); upp
 -- R31: both searches
 abbrev pub enclosed : Bool → Cell → ℕ → Enclosure
 enclosed mirrored c d = mirror_ends mirrored (found_lower c d) (found_upper c d)
+
+-- R31: the first code that applies, or both ends, and whether they are mirrored
+abbrev pub enclosure_known : Given → ℕ → Result (Posed Found) Refusal
+enclosure_known g d = allowed (enclosure_checks g d) (record { mirrored = mirrored_of g; of = found_ends (cell_of g) d })
+
+-- R31: the ends as the entry says them
+abbrev pub said : Posed Found → Enclosure
+said p = mirror_ends p.mirrored p.of.a p.of.b
+
+-- R31: what was found as the entry answers it
+abbrev pub enclosure_answer : Result (Posed Found) Refusal → Enclosure
+enclosure_answer = answer refusal said
 
 -- R31: the first code that applies, and the two ends where none does
 abbrev pub enclosure_rule : Given → ℕ → Enclosure

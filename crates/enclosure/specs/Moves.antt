@@ -1,13 +1,18 @@
--- How the code's searches move, and the limits of what they find. No entry's contract cites this file.
-use Rattle.std.specs.Prelude.{ℕ, ◌≤◌, Bool, true, false, not}
+-- How the code's searches move, what they find, and its limits. No entry's contract cites this file.
+use Rattle.std.specs.Prelude.{ℕ, ◌≤◌, Bool, true, false, not, [], ◌∷◌, Result}
 use Rattle.grid.specs.Grid.{T_units}
-use Rattle.orbit.specs.declared.Cell.{Cell}
-use Rattle.ends.specs.Ends.{lower_end, upper_end}
+use Rattle.grid.specs.Codes.{allowed}
+use Rattle.grid.specs.declared.codes.Refusal.{Refusal}
+use Rattle.enclosure.specs.Halving.{Found, searched}
 
 -- R26, R27: the numbers to which a search moves p: that of an upper end those not accepted, that of a lower end those accepted
-abbrev pub moves_p : Bool → Cell → ℕ → ℕ → Bool
-moves_p true c d = λ X. not (upper_end c d X)
-moves_p false c d = lower_end c d
+abbrev pub moves_p : Bool → (ℕ → Bool) → ℕ → Bool
+moves_p true acc = λ X. not (acc X)
+moves_p false acc = acc
+
+-- R28, R88: both ends, or the refusal where the top is not accepted as an upper end
+abbrev pub enclosed_by : (ℕ → Bool) → (ℕ → Bool) → ℕ → Refusal → Result Found Refusal
+enclosed_by lower upper top none = allowed (record { fails = not (upper top); code = none } ∷ []) (searched lower upper top)
 
 -- ends from 0 to T, which have negatives
 pub record EndsIn (a b : ℕ) : Type 0 where

@@ -1,18 +1,16 @@
-// The enclosure of a problem's eccentric anomaly between two accepted ends, found by halving.
+// The enclosure of a root between two accepted ends, found by halving.
 #![tactic(auto)]
 
-ghost use Rattle.std.specs.Prelude.{◌≡◌, [], ◌∷◌};
-ghost use Rattle.grid.specs.Grid.{T_units};
-ghost use Rattle.grid.specs.Codes.{checked};
-ghost use Rattle.orbit.specs.Given.{grid, doubles, ProblemIn};
-ghost use Rattle.orbit.specs.Posed.{ByProblem, PosedIn};
-ghost use Rattle.ends.specs.Corner.{Asked};
-ghost use Rattle.enclosure.specs.Halving.{last_bracket};
-ghost use Rattle.enclosure.specs.Enclosure.{T_check, found_ends, refusal, mirror_ends, enclosed, enclosure_rule};
-ghost use Rattle.enclosure.specs.Moves.{moves_p, EndsIn};
+ghost use Rattle.std.specs.Prelude.{◌≡◌, ◌≤◌, true, false};
+ghost use Rattle.enclosure.specs.Halving.{last_bracket, searched};
+ghost use Rattle.enclosure.specs.Enclosure.{enclosure_known, enclosure_answer, enclosure_rule};
+ghost use Rattle.enclosure.specs.Moves.{moves_p, enclosed_by};
 
-use grid::{Angle, codes};
-use orbit::{CodedProblem, Problem};
+use ends::Tested;
+use grid::codes;
+use grid::codes::Refusal;
+use orbit::pose::{Given, Posed, Problem};
+use std::marker::Model;
 
 // A code, and with code 0 the two ends, in units.
 #[repr(C)]
@@ -23,43 +21,45 @@ pub struct Enclosure {
     pub upper: i32,
 }
 
-// The ends that the searches find, in units, of the problem as it is posed.
-#[derive(Clone, Copy)]
+// The ends that the searches find, in units, of what is posed.
+#[derive(Clone, Copy, Debug, PartialEq, Eq)]
 pub struct Found {
-    pub a: u32,
-    pub b: u32,
+    pub a: u64,
+    pub b: u64,
+}
+
+impl Model for Found {
+    ghost use Rattle.enclosure.specs.Halving as halving;
+    ghost use Rattle.enclosure.specs.Moves as moves;
+
+    ghost Value = { halving.Found };
+
+    ghost view = { λ f. record { a = f.a; b = f.b } };
+
+    ghost invariant = { λ f. moves.EndsIn f.a f.b };
+
+    ghost inverse = { λ f. record { a = f.a; b = f.b } };
 }
 
 // Where a search stands.
 #[derive(Clone, Copy)]
 pub struct Bracket {
-    pub p: u32,
-    pub q: u32,
+    pub p: u64,
+    pub q: u64,
 }
 
-// Whether a search moves p to x: that of an upper end where x is not accepted, that of a lower end where it is.
-fn moves_p(problem: Problem, x: Angle, upper: bool) -> bool
-    requires { Asked problem x }
-    ensures { result ≡ moves_p upper problem.cell problem.depth.pairs x.units }
-{
-    if upper {
-        !ends::upper(problem, x)
-    } else {
-        ends::lower(problem, x)
-    }
-}
-
-// The last p and q of a search from 0 and T.
-fn last_bracket(problem: Problem, upper: bool) -> Bracket
-    requires { ProblemIn problem }
-    ensures { result ≡ last_bracket (moves_p upper problem.cell problem.depth.pairs) T_units }
+// R25: the last p and q of a search from 0 to the top: that of a lower end moves p to what is accepted, that of an upper end to
+// what is not.
+fn last_bracket<P: Tested>(tested: P, upper: bool) -> Bracket
+    ensures low { result.p ≤ P.TOP }
+    ensures high { result.q ≤ P.TOP }
+    ensures last { result ≡ last_bracket (moves_p upper (P.test tested upper (P.last tested))) P.TOP }
 {
     let mut p = 0;
-    let mut q = Angle::T;
+    let mut q = P::TOP;
     while q - p > 1 {
         let middle = (p + q) / 2;
-        let units = middle as u64;
-        if moves_p(problem, Angle { units }, upper) {
+        if tested.accepts(middle, upper) != upper {
             p = middle;
         } else {
             q = middle;
@@ -68,88 +68,73 @@ fn last_bracket(problem: Problem, upper: bool) -> Bracket
     Bracket { p, q }
 }
 
-pub fn refused(code: u32) -> Enclosure
-    ensures { result ≡ refusal code }
+// R26, R27: both searches. The upper end is one where the top is accepted as such.
+pub fn find_ends<P: Tested>(tested: P) -> Found
+    ensures { result ≡ searched (P.test tested false (P.last tested)) (P.test tested true (P.last tested)) P.TOP }
 {
-    Enclosure {
-        code,
-        lower: 0,
-        upper: 0,
+    let a = last_bracket(tested, false).p;
+    let b = if tested.accepts(0, true) {
+        0
+    } else {
+        last_bracket(tested, true).q
+    };
+    Found { a, b }
+}
+
+// R28, R88: both ends, or the refusal where the top is not accepted as an upper end.
+pub fn enclosed<P: Tested>(tested: P, none: Refusal) -> Result<Found, Refusal>
+    ensures { result ≡ enclosed_by (P.test tested false (P.last tested)) (P.test tested true (P.last tested)) P.TOP none }
+{
+    if tested.accepts(P::TOP, true) {
+        Ok(find_ends(tested))
+    } else {
+        Err(none)
     }
 }
 
 // R59: the ends a and b that were found, or on the mirror -b and -a.
-pub fn between(a: u32, b: u32, mirrored: bool) -> Enclosure
-    requires { EndsIn a b }
-    ensures { result ≡ mirror_ends mirrored a b }
-{
-    let near = orbit::mirror_angle(a as u64, mirrored);
-    let far = orbit::mirror_angle(b as u64, mirrored);
-    if mirrored {
-        Enclosure {
-            code: codes::DONE,
-            lower: far,
-            upper: near,
+impl From<Result<Posed<Found>, Refusal>> for Enclosure {
+    ghost from_gives = { λ known r. r ≡ enclosure_answer known };
+
+    fn from(known: Result<Posed<Found>, Refusal>) -> Self {
+        match known {
+            Ok(posed) => {
+                let mirrored = posed.mirrored;
+                let found = posed.of;
+                let (low, high) = if mirrored {
+                    (found.b, found.a)
+                } else {
+                    (found.a, found.b)
+                };
+                Enclosure {
+                    code: codes::DONE,
+                    lower: orbit::mirror_angle(low, mirrored),
+                    upper: orbit::mirror_angle(high, mirrored),
+                }
+            }
+            Err(refusal) => Enclosure {
+                code: refusal.code(),
+                lower: 0,
+                upper: 0,
+            },
         }
-    } else {
-        Enclosure {
-            code: codes::DONE,
-            lower: near,
-            upper: far,
-        }
     }
 }
 
-// R26, R27: both searches. The upper end is one where T is accepted as such.
-pub fn find_ends(problem: Problem) -> Found
-    requires { ProblemIn problem }
-    ensures { result ≡ found_ends problem.cell problem.depth.pairs }
+// The ends of whatever is given at a depth, or why there are none: code 1, 2, 3, then 6.
+#[tactic(auto, unfolding(crate::specs::Enclosure::found_lower, crate::specs::Enclosure::found_upper))]
+fn posed_ends<G: Given>(given: G, depth: u32) -> Result<Posed<Found>, Refusal>
+    ensures { result ≡ enclosure_known (G.given given) depth }
 {
-    let lower = last_bracket(problem, false);
-    if ends::upper(problem, Angle { units: 0 }) {
-        return Found { a: lower.p, b: 0 };
-    }
-    let upper = last_bracket(problem, true);
-    Found {
-        a: lower.p,
-        b: upper.q,
-    }
+    let posed = Problem::pose(given, depth)?;
+    let of = enclosed(posed.of, Refusal::NoUpperEnd)?;
+    let mirrored = posed.mirrored;
+    Ok(Posed { mirrored, of })
 }
 
-// The enclosure of a problem within its limits; code 6 where T is not accepted as an upper end.
-fn enclose_problem(problem: Problem, mirrored: bool) -> Enclosure
-    requires { ProblemIn problem }
-    ensures { result ≡ checked (T_check problem.cell problem.depth.pairs ∷ []) refusal (enclosed mirrored problem.cell problem.depth.pairs) }
+// The enclosure of whatever is given at a depth, or its code.
+pub fn enclose<G: Given>(given: G, depth: u32) -> Enclosure
+    ensures { result ≡ enclosure_rule (G.given given) depth }
 {
-    if !ends::upper(problem, Angle { units: grid::T }) {
-        return refused(codes::NO_UPPER_END);
-    }
-    let found = find_ends(problem);
-    between(found.a, found.b, mirrored)
-}
-
-// The enclosure of whatever was given, or its code.
-fn enclose_posed(posed: CodedProblem) -> Enclosure
-    requires { PosedIn posed }
-    ensures { ByProblem posed enclosure_rule result }
-{
-    if posed.code != codes::DONE {
-        return refused(posed.code);
-    }
-    let problem = posed.problem;
-    enclose_problem(problem, posed.mirrored)
-}
-
-// The enclosure of M and A at a depth, or the code of what is out of limits: 1, 2, 3, then 6.
-pub fn enclose(m: i32, a: u32, depth: u32) -> Enclosure
-    ensures { result ≡ enclosure_rule (grid m a) depth }
-{
-    enclose_posed(Problem::new(m, a, depth))
-}
-
-// R60: the same of M in radians and e as doubles.
-pub fn enclose_double(m: f64, e: f64, depth: u32) -> Enclosure
-    ensures { result ≡ enclosure_rule (doubles m e) depth }
-{
-    enclose_posed(Problem::of_doubles(m, e, depth))
+    Enclosure::from(posed_ends(given, depth))
 }

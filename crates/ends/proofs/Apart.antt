@@ -7,11 +7,11 @@ use lib.Dec.{T, ltb, not_T, ltb→lt, nltb→le}
 use Rattle.grid.specs.Grid.{one, T_units, depths}
 use Rattle.series.specs.Sine.{sine, Lo, Hi, den9}
 use Rattle.series.proofs.Sums.{same, other}
-use Rattle.series.proofs.SineTerms.{sine_divides}
+use Rattle.series.proofs.OfSine.{sine_divides}
 use Rattle.series.proofs.TermsTrue.{den_pos}
 use Rattle.series.proofs.Rise.{sine_rises}
 use Rattle.orbit.specs.Cell.{Orbit, orbit_at, CellIn}
-use Rattle.orbit.specs.declared.Cell.{Cell}
+use Rattle.orbit.specs.Cell.{Cell}
 use Rattle.ends.specs.Ends.{lower_end, upper_end}
 use Rattle.ends.proofs.BothEnds.{Spares}
 use Rattle.ends.proofs.InNaturals.{BelowBy, AboveBy}

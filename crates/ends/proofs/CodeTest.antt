@@ -1,13 +1,14 @@
 -- The code's test at a corner, on a biased bound, is the grid's; and where the other bound of a depth fails it, no depth
 -- accepts. Assumes nothing.
 use mathlib.Core.Path.{◌≡◌, refl, ap, ap₂, subst, sym, ◌∙◌}
-use mathlib.Core.Bool.{Bool, true, false, not, cond, ◌&&◌}
+use mathlib.Core.Bool.{Bool, true, false, not, cond, ◌&&◌, true≢false}
 use mathlib.Core.Logic.{◌↔◌}
 use Prim.Native.Nat.{ℕ, zero, suc, ◌+◌, ◌*◌, ◌≤◌}
 use native.Mathlib.Omega.{arith}
 use native.Mathlib.Nat.{mul-le-mul_left}
 use lib.Dec.{T, not_T}
 use lib.IntN.{ℤ}
+use Rattle.std.specs.Prelude.{Option, Some, None}
 use Rattle.whole.proofs.Bools.{alike, by_meaning, passed, passes, fails, both, both_parts}
 use Rattle.grid.specs.Grid.{one, H_units, T_units, depths}
 use Rattle.series.specs.Sine.{sine}
@@ -22,9 +23,8 @@ use Rattle.series.proofs.CodeStop.{spent_walk}
 use Rattle.orbit.specs.Cell.{Orbit, orbit_at}
 use Rattle.orbit.specs.declared.Span.{Span}
 use Rattle.ends.specs.Ends.{below_at, above_at, below_by, above_by, end_by, bound_of, end_at}
-use Rattle.ends.specs.declared.AtDepth.{AtDepth}
-use Rattle.ends.specs.declared.Corner.{Corner}
-use Rattle.ends.specs.Corner.{one_mean, corner_of, test_by, own_bound, at_depth, WalkIn}
+use Rattle.ends.specs.declared.settling.Corner.{Corner}
+use Rattle.ends.specs.Corner.{one_mean, corner_of, AtDepth, said, test_by, own_bound, at_depth, WalkIn}
 use Rattle.ends.proofs.InNaturals.{below_test, above_test}
 use Rattle.ends.specs.Least.{least_depth}
 use Rattle.ends.proofs.Least.{found}
@@ -78,6 +78,28 @@ settled false most false r e stays never = never refl
 unsettled : (least most other : Bool) → cond least most (not other) ≡ false → (least && most) ≡ false
 unsettled true most other e = e
 unsettled false most other e = refl
+
+-- what one depth said, by what is handed on of it
+abbrev settled_of : Option Bool → Bool
+settled_of (Some b) = true
+settled_of None = false
+
+abbrev accepted_of : Option Bool → Bool
+accepted_of (Some b) = b
+accepted_of None = false
+
+of_said : (t a : Bool) → (settled_of (cond t (Some a) None) ≡ t) × (t ≡ true → accepted_of (cond t (Some a) None) ≡ a)
+of_said true a = (refl, λ e. refl)
+of_said false a = (refl, λ e. absurd (true≢false (sym e)))
+
+pub said_some : (r : AtDepth) {o : Option Bool} {b : Bool} → o ≡ said r → o ≡ Some b → (r.settles ≡ true) × (r.accepts ≡ b)
+said_some r s e =
+    let (p, q) = of_said r.settles r.accepts in
+    let t = sym p ∙ ap settled_of (sym s ∙ e) in
+    (t, sym (q t) ∙ ap accepted_of (sym s ∙ e))
+
+pub said_none : (r : AtDepth) {o : Option Bool} → o ≡ said r → o ≡ None → r.settles ≡ false
+said_none r s e = sym (of_said r.settles r.accepts).0 ∙ ap settled_of (sym s ∙ e)
 
 -- the tests of one depth
 module _ (upper : Bool) (least most : Corner) (w : Walk) where

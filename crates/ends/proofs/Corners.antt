@@ -17,7 +17,7 @@ use Rattle.series.specs.Sine.{sine}
 use Rattle.series.proofs.Deeper.{Lo_rises, Hi_falls}
 use Rattle.series.proofs.Stays.{low_stays, high_stays}
 use Rattle.orbit.specs.Cell.{Orbit, orbit_at, grid_cell}
-use Rattle.orbit.specs.declared.Cell.{Cell}
+use Rattle.orbit.specs.Cell.{Cell}
 use Rattle.ends.specs.Ends.{below_at, above_at, below_by, above_by, end_by, bound_of, end_at}
 use Rattle.ends.proofs.BothEnds as ends
 use Rattle.ends.proofs.InNaturals.{below_test, above_test}

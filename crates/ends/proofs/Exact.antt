@@ -8,7 +8,7 @@ use Rattle.whole.proofs.Order.{le_parts}
 use Rattle.grid.specs.Grid.{one, T_units, depths}
 use Rattle.series.specs.Sine.{sine, Lo, Hi, den9, den10}
 use Rattle.series.proofs.Sums.{same, other}
-use Rattle.series.proofs.SineTerms.{sine_divides}
+use Rattle.series.proofs.OfSine.{sine_divides}
 use Rattle.series.proofs.TermsTrue.{den_pos}
 use Rattle.series.proofs.BoundsTrue.{Lo-true, Hi-true}
 use Rattle.series.proofs.Width.{width_5}

@@ -11,10 +11,10 @@ use Rattle.whole.proofs.Order.{le_parts}
 use Rattle.grid.specs.Grid.{one, T_units, depths}
 use Rattle.series.specs.Sine.{sine, Lo, Hi, den9, den10}
 use Rattle.series.proofs.Sums.{same, other}
-use Rattle.series.proofs.SineTerms.{sine_divides}
+use Rattle.series.proofs.OfSine.{sine_divides}
 use Rattle.series.proofs.Next.{drop-last, add-last, S9_parts, S10_parts}
 use Rattle.orbit.specs.Cell.{Exact, InCell, orbit_at, grid_cell}
-use Rattle.orbit.specs.declared.Cell.{Cell}
+use Rattle.orbit.specs.Cell.{Cell}
 use Rattle.ends.specs.Ends.{end_at}
 use Rattle.ends.specs.Exact.{Sum, difference, sine_of, spare, Meets, Spare, sum_of}
 use Rattle.ends.proofs.BothEnds.{between}

@@ -16,12 +16,12 @@ use Rattle.series.specs.Bounds.{evens, odds, raw_low, raw_high, greatest_low, le
 use Rattle.series.specs.Exact.{num, ratio, S}
 use Rattle.series.specs.Sine.{sine, Lo, Hi, S9, den9}
 use Rattle.series.proofs.Sums.{same, other}
-use Rattle.series.proofs.SineTerms.{sine_divides}
+use Rattle.series.proofs.OfSine.{sine_divides}
 use Rattle.series.proofs.TermsTrue.{den_pos}
 use Rattle.series.proofs.Deeper.{Lo_rises}
 use Rattle.series.proofs.Next.{S9_parts}
 use Rattle.orbit.specs.Cell.{Orbit, orbit_at, grid_cell, CellIn}
-use Rattle.orbit.specs.declared.Cell.{Cell}
+use Rattle.orbit.specs.Cell.{Cell}
 use Rattle.ends.specs.Ends.{below_at, above_at, lower_end, upper_end}
 use Rattle.ends.proofs.BothEnds.{no_sine}
 use Rattle.ends.proofs.Corners.{below_corners, above_corners, deeper}

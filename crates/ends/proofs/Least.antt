@@ -3,15 +3,16 @@
 use mathlib.Core.Path.{◌≡◌, refl, sym, ap, subst, ◌∙◌}
 use mathlib.Core.Bool.{Bool, true, false, not, cond, ◌&&◌}
 use mathlib.Core.Logic.{⊎_elim, ◌↔◌}
-use Prim.Native.Nat.{ℕ, ◌-◌, ◌≤◌, ◌<◌}
+use Prim.Native.Nat.{ℕ, zero, suc, ◌-◌, ◌≤◌, ◌<◌}
 use native.Mathlib.Omega.{arith}
 use native.Mathlib.Nat.{eq-or-lt_of_le}
 use borrow.Author.Tests.{ne_eqb}
 use lib.Dec.{T, eqb, T_not, not_T}
+use Rattle.std.specs.Prelude.{Option, is_some}
 use Rattle.whole.specs.First.{first_from}
 use Rattle.whole.proofs.Bools.{passed, passes, fails}
 use Rattle.whole.proofs.First.{first, only}
-use Rattle.ends.specs.Least.{least_depth}
+use Rattle.ends.specs.Least.{least_depth, depth_or_none, from_least}
 
 -- k is the least of the depths 1 to d that pass, and d passes too
 pub record Least (test : ℕ → Bool) (d k : ℕ) : Type 0 where
@@ -67,12 +68,20 @@ module _ (test : ℕ → Bool) (d : ℕ) where
   nonzero false = refl
 
   -- whether there is one is the last depth's test
-  pub is_some : (k : ℕ) → k ≡ least_depth test d → not (eqb k 0) ≡ test d
+  pub there : (k : ℕ) → k ≡ least_depth test d → not (eqb k 0) ≡ test d
   unfolding least_depth chosen
-  is_some k e = ap (λ (i : ℕ). not (eqb i 0)) e ∙ nonzero (test d)
+  there k e = ap (λ (i : ℕ). not (eqb i 0)) e ∙ nonzero (test d)
+
+  -- and so it is of one that is handed on
+  pub handed_on : (o : Option ℕ) → o ≡ from_least test d → is_some o ≡ test d
+  handed_on o e = ap is_some e ∙ by_number (least_depth test d) ∙ there (least_depth test d) refl
+    where
+      by_number : (k : ℕ) → is_some (depth_or_none k) ≡ not (eqb k 0)
+      by_number zero = refl
+      by_number (suc k) = sym (ap not (ne_eqb (suc k) 0 (λ e. let z : ⊥ = omega arith in z)))
 
   pub says_none : least_depth test d ≡ 0 → test d ≡ false
-  says_none e = sym (is_some 0 (sym e))
+  says_none e = sym (there 0 (sym e))
 
 -- ---- two tests
 

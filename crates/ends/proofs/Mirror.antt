@@ -14,7 +14,7 @@ use Rattle.series.specs.Exact.{num, ratio, S}
 use Rattle.orbit.specs.Cell.{Exact, InCell, grid_cell}
 use Rattle.orbit.specs.Mirror.{mirror, mirror_end}
 use Rattle.orbit.specs.Given.{Given, grid, mirrored_of, cell_of}
-use Rattle.orbit.specs.declared.Cell.{Cell}
+use Rattle.orbit.specs.Cell.{Cell}
 use Rattle.ends.specs.Ends.{end_at}
 use Rattle.ends.specs.Exact.{oddly, difference, sine_of, Meets, Spare, sum_of, ExactAt, EndSpare}
 use Rattle.ends.proofs.Fractions.{cell_true, other_sum, on_grid, grid_spare}

@@ -1,32 +1,15 @@
 -- An end test as the code makes it. No entry's contract cites this file: it is checked, and need not be believed.
-use Rattle.std.specs.Prelude.{ℕ, ◌+◌, ◌*◌, ◌≤◌, Bool, true, false, not, cond, ◌&&◌, leb}
+use Rattle.std.specs.Prelude.{ℕ, ◌+◌, ◌*◌, ◌≤◌, Bool, true, false, not, cond, ◌&&◌, leb, Option, Some, None}
 use Rattle.grid.specs.Grid.{one, H_units, T_units}
-use Rattle.grid.specs.Limits.{AngleIn, DepthIn}
-use Rattle.grid.specs.declared.Angle.{Angle}
-use Rattle.grid.specs.declared.Depth.{Depth}
 use Rattle.series.specs.Walk.{bias}
 use Rattle.series.specs.declared.Walk.{Walk}
-use Rattle.orbit.specs.Cell.{Orbit, exactly, CellIn}
-use Rattle.orbit.specs.Given.{ProblemIn}
+use Rattle.orbit.specs.Cell.{Orbit, Cell, exactly}
 use Rattle.orbit.specs.declared.Span.{Span}
-use Rattle.orbit.specs.declared.Cell.{Cell}
-use Rattle.orbit.specs.declared.Problem.{Problem}
-use Rattle.ends.specs.declared.Corner.{Corner}
-use Rattle.ends.specs.declared.AtDepth.{AtDepth}
-
--- what the test of an angle rests on
-pub record Asked (p : Problem) (x : Angle) : Type 0 where
-  pub problem : ProblemIn p
-  pub angle : AngleIn x
+use Rattle.ends.specs.declared.settling.Corner.{Corner}
 
 -- the cell of one M, by which a test of one end goes
 abbrev pub one_mean : ℕ → Span → Cell
 one_mean m a = record { m = exactly m; a = a }
-
-pub record Settling (m : ℕ) (a : Span) (d : Depth) (x : Angle) : Type 0 where
-  pub cell : CellIn (one_mean m a)
-  pub depth : DepthIn d
-  pub angle : AngleIn x
 
 pub record CornerIn (m a x : ℕ) : Type 0 where
   pub mean : m ≤ H_units
@@ -45,6 +28,15 @@ test_by false c bound = leb c.level (c.shape * bound + c.mean)
 abbrev pub own_bound : Bool → Walk → ℕ
 own_bound true w = w.least
 own_bound false w = w.greatest
+
+-- what one depth says of an end: whether that settles every greater depth too, and whether it is accepted
+pub record AtDepth : Type 0 where
+  pub settles : Bool
+  pub accepts : Bool
+
+-- whether it is accepted, where that is settled
+abbrev pub said : AtDepth → Option Bool
+said r = cond r.settles (Some r.accepts) None
 
 -- what one depth says: whether both corners accept; that settles every greater depth too where they do, and where the other
 -- bound fails the least corner

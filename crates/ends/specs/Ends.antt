@@ -4,8 +4,7 @@ use Rattle.std.specs.Int.Signed.{le_z}
 use Rattle.whole.specs.Choose.{greater, lesser}
 use Rattle.grid.specs.Grid.{one}
 use Rattle.series.specs.Sine.{Lo, Hi}
-use Rattle.orbit.specs.Cell.{Orbit}
-use Rattle.orbit.specs.declared.Cell.{Cell}
+use Rattle.orbit.specs.Cell.{Orbit, Cell}
 
 -- R17: of one M and one A, whether X lies below the root by a bound b
 unfoldable pub below_at : Orbit → ℕ → ℤ → Bool

@@ -3,3 +3,4 @@ pub mod Exact
 pub mod Entry
 pub mod Corner
 pub mod Least
+pub mod Top

@@ -6,8 +6,7 @@ use native.Mathlib.Nat.{mul-le-mul}
 use Rattle.grid.specs.Flyby.{X_top}
 use Rattle.sinh.specs.Sinh.{low, high}
 use Rattle.sinh.proofs.Limits.{low_small, high_small}
-use Rattle.flyby.specs.Posed.{FlybyIn}
-use Rattle.flyby.specs.declared.Flyby.{Flyby}
+use Rattle.flyby.specs.Posed.{Flyby, FlybyIn}
 
 module _ {f : Flyby} (i : FlybyIn f) {X : ℕ} (h : X ≤ X_top) where
   pub low_product : {n : ℕ} → n ≡ low X → f.shape * n ≤ 1045371346659311616

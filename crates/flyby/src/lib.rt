@@ -2,58 +2,56 @@
 #![tactic(auto)]
 
 ghost use Rattle.std.specs.Prelude.{◌≡◌};
+ghost use Rattle.std.proofs.Common.{rules};
+ghost use Rattle.grid.specs.Flyby.{X_top};
 ghost use Rattle.flyby.specs.Ends.{end_at};
-ghost use Rattle.flyby.specs.Entry.{end_rule, lower_rule, upper_rule};
-ghost use Rattle.flyby.specs.Posed.{coded_flyby, Asked};
+ghost use Rattle.flyby.specs.Entry.{end_known, lower_rule, upper_rule};
+ghost use Rattle.flyby.specs.Posed.{coded_flyby};
 
-use ends::End;
-use grid::codes;
+use ends::{End, Tested};
+use grid::codes::Refusal;
+use grid::{FlybyAngle, codes};
+use std::marker::Model;
 
 // M, and B of the eccentricity B / 2^28.
-#[derive(Clone, Copy)]
+#[derive(Clone, Copy, Debug, PartialEq, Eq)]
 pub struct Flyby {
     pub mean: u64,
     pub shape: u64,
 }
 
-// A code, and with code 0 the flyby.
-#[derive(Clone, Copy)]
-pub struct CodedFlyby {
-    pub code: u32,
-    pub flyby: Flyby,
+impl Model for Flyby {
+    ghost use Rattle.flyby.specs.Posed as flybys;
+
+    ghost Value = { flybys.Flyby };
+
+    ghost view = { λ f. record { mean = f.mean; shape = f.shape } };
+
+    ghost invariant = { λ f. flybys.FlybyIn (record { mean = f.mean; shape = f.shape }) };
+
+    ghost inverse = { λ f. record { mean = f.mean; shape = f.shape } };
 }
 
 impl Flyby {
-    // R81: the codes 1 and 2, in that order.
-    pub fn new(m: u32, b: u32) -> CodedFlyby
+    // R81: a flyby within its limits, or its code: 1, then 2.
+    pub fn new(m: u32, b: u32) -> Result<Flyby, Refusal>
         ensures { result ≡ coded_flyby m b }
     {
-        let m_code = codes::limited(m, grid::FLYBY_M, codes::BAD_M);
-        let b_code = codes::spanned(b, grid::FLYBY_B_LEAST, grid::FLYBY_B, codes::BAD_A);
-        let code = codes::earlier(m_code, b_code);
-        if code == codes::DONE {
-            CodedFlyby {
-                code,
-                flyby: Flyby {
-                    mean: m as u64,
-                    shape: b as u64,
-                },
-            }
-        } else {
-            CodedFlyby {
-                code,
-                flyby: Flyby { mean: 0, shape: 0 },
-            }
-        }
+        let m = codes::limited(m, grid::FLYBY_M, Refusal::BadM)?;
+        let b = codes::spanned(b, grid::FLYBY_B_LEAST, grid::FLYBY_B, Refusal::BadA)?;
+        Ok(Flyby {
+            mean: u64::from(m),
+            shape: u64::from(b),
+        })
     }
 }
 
 // R85: whether x is accepted as an upper end, or as a lower one. Only the bound that the test needs is made.
-pub fn accepted(f: Flyby, x: u64, upper: bool) -> bool
-    requires { Asked f x }
+#[tactic(auto, unfolding(crate::specs::Ends::end_at), using(crate::proofs::Products::low_product, crate::proofs::Products::high_product))]
+pub fn accepted(f: Flyby, x: FlybyAngle, upper: bool) -> bool
     ensures { result ≡ end_at upper f.mean f.shape x }
 {
-    let level = grid::ONE * (x + f.mean);
+    let level = grid::ONE * (x.units + f.mean);
     if upper {
         level <= f.shape * sinh::low(x)
     } else {
@@ -61,30 +59,50 @@ pub fn accepted(f: Flyby, x: u64, upper: bool) -> bool
     }
 }
 
-// The end test of whatever was given, of an upper end or of a lower one.
-fn end_test(x: u32, m: u32, b: u32, upper: bool) -> End
-    ensures { result ≡ end_rule upper x m b }
-{
-    let posed = Flyby::new(m, b);
-    let x_code = codes::limited(x, grid::FLYBY_TOP, codes::BAD_X);
-    let code = codes::earlier(posed.code, x_code);
-    if code != codes::DONE {
-        return End { code, accepted: 0 };
+// Its tests know no depth, so that the depth asked for is 1.
+impl Tested for Flyby {
+    ghost test = { λ f upper d x. end_at upper f.mean f.shape x };
+
+    ghost last = { λ _. 1 };
+
+    ghost TOP = { X_top };
+
+    ghost room = { Prim.search rules };
+
+    const TOP: u64 = grid::FLYBY_TOP as u64;
+
+    fn last_depth(self) -> u64 {
+        1
     }
-    let flyby = posed.flyby;
-    ends::flag(accepted(flyby, x as u64, upper))
+
+    fn accepted_from(self, units: u64, upper: bool) -> Option<u64> {
+        accepted(self, FlybyAngle { units }, upper).then_some(1)
+    }
+
+    fn accepts(self, units: u64, upper: bool) -> bool {
+        accepted(self, FlybyAngle { units }, upper)
+    }
+}
+
+// The end test of whatever was given, of an upper end or of a lower one, or why there is none: code 1, 2, then 10.
+fn end_test(x: u32, m: u32, b: u32, upper: bool) -> Result<bool, Refusal>
+    ensures { result ≡ end_known upper x m b }
+{
+    let flyby = Flyby::new(m, b)?;
+    let x = FlybyAngle::try_from(x)?;
+    Ok(accepted(flyby, x, upper))
 }
 
 // R87: whether x is an accepted lower end, or the code of what is out of limits: 1, 2, then 10.
 pub fn lower_end(x: u32, m: u32, b: u32) -> End
     ensures { result ≡ lower_rule x m b }
 {
-    end_test(x, m, b, false)
+    End::from(end_test(x, m, b, false))
 }
 
 // R87: whether x is an accepted upper end, or its code.
 pub fn upper_end(x: u32, m: u32, b: u32) -> End
     ensures { result ≡ upper_rule x m b }
 {
-    end_test(x, m, b, true)
+    End::from(end_test(x, m, b, true))
 }

@@ -1,2 +1,1 @@
 pub mod Enclosure
-pub mod Moves

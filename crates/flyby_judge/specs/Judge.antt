@@ -1,7 +1,8 @@
 -- What the entry `flyby_judge` answers for any claim, R89: the verdict of R42 to R45 by the flyby's tests, up to its top.
 use Rattle.std.specs.Prelude.{ℕ, true, false, List, [], ◌∷◌, ◌++◌, Float}
-use Rattle.grid.specs.Codes.{Check, bad_estimate, checked, n_check}
+use Rattle.grid.specs.Codes.{Check, checked, n_check}
 use Rattle.grid.specs.Flyby.{X_top, flyby_checks}
+use Rattle.grid.specs.declared.codes.Refusal.TheVariants.{BadEstimate}
 use Rattle.units.specs.Units.{range_check, floor_and_ceiling}
 use Rattle.judge.specs.Verdict.{Tests, verdict_by}
 use Rattle.judge.specs.Judge.{verdict, unjudged}
@@ -25,7 +26,7 @@ claim_of m b x n = record { m = m; b = b; estimate = x; n = n }
 
 -- R89: codes 1, 2, 4 and 5 in that order
 abbrev pub claim_checks : Claim → List Check
-claim_checks k = flyby_checks k.m k.b ++ range_check k.estimate X_top bad_estimate ∷ n_check k.n ∷ []
+claim_checks k = flyby_checks k.m k.b ++ range_check k.estimate X_top BadEstimate ∷ n_check k.n ∷ []
 
 -- R89: the verdict, with f and c of the estimate as in R41
 abbrev pub claim_verdict : Claim → Verdict

@@ -6,27 +6,29 @@ use borrow.Author.Tests.{ltb-false, le-ltb}
 use lib.IntN.{ℤ, nat_abs}
 use Rattle.whole.specs.Sign.{negative}
 use Rattle.grid.specs.Grid.{T_units, depths}
-use Rattle.grid.specs.Codes.{Code, or, bad_depth, limit_check, span_check, depth_check, signed_x_check}
+use Rattle.grid.specs.Codes.{or, limit_check, span_check, depth_check, signed_x_check}
 use Rattle.grid.specs.Limits.{DepthIn}
+use Rattle.grid.specs.declared.codes.Refusal.{Refusal}
+use Rattle.grid.specs.declared.codes.Refusal.TheVariants.{BadDepth}
 
-pub limit_fits : (n limit : ℕ) (k : Code) → (limit_check n limit k).fails ≡ false → n ≤ limit
+pub limit_fits : (n limit : ℕ) (k : Refusal) → (limit_check n limit k).fails ≡ false → n ≤ limit
 limit_fits n limit k e = ltb-false limit n e
 
 neither : (s t : Bool) → or s t ≡ false → (s ≡ false) × (t ≡ false)
 neither true t e = (e, cc)
 neither false t e = (refl, e)
 
-pub span_fits : (n least limit : ℕ) (k : Code) → (span_check n least limit k).fails ≡ false → (least ≤ n) × (n ≤ limit)
+pub span_fits : (n least limit : ℕ) (k : Refusal) → (span_check n least limit k).fails ≡ false → (least ≤ n) × (n ≤ limit)
 span_fits n least limit k e = let w = neither _ _ e in (ltb-false n least w.0, ltb-false limit n w.1)
 
-pub span_passes : (n least limit : ℕ) (k : Code) → least ≤ n → n ≤ limit → (span_check n least limit k).fails ≡ false
+pub span_passes : (n least limit : ℕ) (k : Refusal) → least ≤ n → n ≤ limit → (span_check n least limit k).fails ≡ false
 span_passes n least limit k h j = simp (le-ltb n least h, le-ltb limit n j)
 
-pub depth_fits : (d : ℕ) → (depth_check d).fails ≡ false → DepthIn (record { pairs = d })
-depth_fits d e = let w = span_fits d 1 depths bad_depth e in record { some = w.0; few = w.1 }
+pub depth_fits : (d : ℕ) → (depth_check d).fails ≡ false → DepthIn d
+depth_fits d e = let w = span_fits d 1 depths BadDepth e in record { some = w.0; few = w.1 }
 
 pub depth_passes : (d : ℕ) → 1 ≤ d → d ≤ depths → (depth_check d).fails ≡ false
-depth_passes d some few = span_passes d 1 depths bad_depth some few
+depth_passes d some few = span_passes d 1 depths BadDepth some few
 
 -- a number with its sign that is an angle
 pub signed_fits : (z : ℤ) → (signed_x_check z).fails ≡ false → (negative z ≡ false) × (nat_abs z ≤ T_units)

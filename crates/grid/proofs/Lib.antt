@@ -1,5 +1,4 @@
 pub mod Fits
 pub mod FirstCode
 pub mod Refuses
-pub mod Made
 pub mod Outcomes

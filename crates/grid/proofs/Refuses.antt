@@ -1,15 +1,18 @@
 -- An answer that begins with checks refuses as the first demand asks, whatever the entry. Assumes nothing.
-use mathlib.Core.Path.{◌≡◌, refl, sym, ap, ap₂, ◌∙◌}
+use mathlib.Core.Path.{◌≡◌, refl, sym, ap, ap₂, subst, ◌∙◌}
 use mathlib.Core.Bool.{Bool, true, false, cond, true≢false}
 use mathlib.Core.List.{List, [], ◌∷◌, ◌++◌}
 use mathlib.Core.Logic.{◌⊎◌, inl, inr, ◌↔◌}
 use Prim.Native.Nat.{ℕ, ◌<◌}
 use native.Mathlib.Omega.{arith}
-use lib.Dec.{T, ltb, ltb→lt}
+use lib.Dec.{T, eqb, ltb, ltb→lt}
 use Rattle.whole.proofs.Bools.{both_parts}
-use Rattle.grid.specs.Codes.{Code, Check, number, limit_check, span_check, first_code, earlier, checked, Passed}
+use Rattle.std.specs.Prelude.{Result, Ok, Err}
+use Rattle.grid.specs.Codes.{Code, Check, number, failed, numbered_in, order, first_code, earlier, checked, allowed, code_in, only_code, Passed}
+use Rattle.grid.specs.declared.codes.Refusal.{Refusal}
+use Rattle.grid.specs.declared.codes.Refusal.TheVariants.{BadM, BadA, BadDepth, BadEstimate, BadN, NoUpperEnd, BadLength, ShortAnswers, BadReserved, BadX, NoFlybyEnd, BadMethod}
 use Rattle.grid.specs.Refuses.{FirstFails, Refuses}
-use Rattle.grid.proofs.FirstCode.{coded, CodeOf, goes, stops, passed, in_turn, neither_code}
+use Rattle.grid.proofs.FirstCode.{coded, goes}
 
 module _ {A : Type 0} (code : A → ℕ) (zeros : ℕ → A) where
   -- one check more: it fails, or the rest answers
@@ -48,7 +51,7 @@ module _ {A : Type 0} (code : A → ℕ) (zeros : ℕ → A) where
 -- the refusal of each of these checks has the check's own code
 abbrev pub Own : {A : Type 0} → (A → ℕ) → (ℕ → A) → List Check → Type 0
 Own code zeros [] = Unit {0}
-Own code zeros (c ∷ cs) = (code (zeros (number c.code)) ≡ number c.code) × Own code zeros cs
+Own code zeros (c ∷ cs) = (code (zeros (number (failed c.code))) ≡ number (failed c.code)) × Own code zeros cs
 
 -- every refusal has its code, and what is given has code 0
 module _ {A : Type 0} (code : A → ℕ) (zeros : ℕ → A) (given : A) (zero : code given ≡ 0) where
@@ -61,79 +64,101 @@ module _ {A : Type 0} (code : A → ℕ) (zeros : ℕ → A) (given : A) (zero :
         others = λ f. absurd (f zero);
       }
   refuses (c ∷ cs) own t =
-      let n = number c.code in
+      let n = number (failed c.code) in
       let r = checked cs zeros given in
       let b = both_parts (ltb 0 n) (coded cs) t in
       let h = refuses cs own.1 b.1 in
       let o = own.0 in
       record {
-        named = named_step code zeros n o r c.fails c.code (first_code cs) refl h.named;
+        named = named_step code zeros n o r c.fails (failed c.code) (first_code cs) refl h.named;
         coded = λ k some. coded_step code zeros n o r c.fails k (FirstFails k cs) (h.coded k some);
         passed = passed_step code zeros n o r c.fails (Passed cs) (ltb→lt 0 n b.0) h.passed;
         others = others_step code zeros n o r c.fails h.others;
       }
 
--- n is the code of these checks, and where it is 0 a value is known
-pub record Says (cs : List Check) (n : ℕ) (Known : Type 0) : Type 0 where
-  pub code_is : CodeOf cs n
-  pub made : n ≡ 0 → Known
-
--- An answer by checks whose refusals keep the code they are given: it refuses as the first demand asks; its code is that of
--- its checks, and with code 0 it is what is given.
-pub record Makes {A : Type 0} (cs : List Check) (code : A → ℕ) (zeros : ℕ → A) (given : A) : Type 0 where
-  pub demand : Refuses cs code zeros (checked cs zeros given)
-  pub says : (r : A) → r ≡ checked cs zeros given → Says cs (code r) (r ≡ given)
-  -- of a code that the checks have: with 0 they all passed, and what is given is answered; else the refusal is
-  pub passed_by : {n : ℕ} → CodeOf cs n → n ≡ 0 → Passed cs
-  pub given_by : {n : ℕ} → CodeOf cs n → n ≡ 0 → (r : A) → r ≡ given → r ≡ checked cs zeros given
-  pub refused_by : {n : ℕ} → CodeOf cs n → (n ≡ 0 → ⊥) → (r : A) → r ≡ zeros n → r ≡ checked cs zeros given
-
-pub makes : {A : Type 0} {cs : List Check} {code : A → ℕ} {zeros : ℕ → A} {given : A}
-    → code given ≡ 0 → ((k : ℕ) → code (zeros k) ≡ k) → T (coded cs) → Makes cs code zeros given
-makes {A} {cs} {code} {zeros} {given} zero keeps t =
-    let h = refuses code zeros given zero cs (own cs) t in
-    record {
-      demand = h;
-      says = λ r e.
-          record {
-            code_is = ap code e ∙ h.named;
-            made = λ z. e ∙ goes cs (passed cs t (code r) (ap code e ∙ h.named) z) zeros given;
-          };
-      passed_by = λ {n} c z. passed cs t n c z;
-      given_by = λ {n} c z r e. e ∙ sym (goes cs (passed cs t n c z) zeros given);
-      refused_by = λ {n} c some r e. e ∙ sym (stops cs n c some zeros given);
-    }
+-- An answer by checks whose refusals keep the code they are given refuses as the first demand asks.
+pub makes : {A : Type 0} (cs : List Check) (code : A → ℕ) (zeros : ℕ → A) (given : A)
+    → code given ≡ 0 → ((k : ℕ) → code (zeros k) ≡ k) → T (coded cs) → Refuses cs code zeros (checked cs zeros given)
+makes {A} cs code zeros given zero keeps t = refuses code zeros given zero cs (own cs) t
   where
     own : (ds : List Check) → Own code zeros ds
     own [] = tt
-    own (c ∷ ds) = (keeps (number c.code), own ds)
+    own (c ∷ ds) = (keeps (number (failed c.code)), own ds)
 
--- the code of a number's limit
-pub limits : (n limit : ℕ) (k : Code) → T (coded (limit_check n limit k ∷ []))
-    → Makes (limit_check n limit k ∷ []) (λ (r : ℕ). r) (λ r. r) 0
-limits n limit k t = makes refl (λ r. refl) t
+-- and with code 0 it is what is given
+pub gives : {A : Type 0} {cs : List Check} {code : A → ℕ} {zeros : ℕ → A} (given : A)
+    → Refuses cs code zeros (checked cs zeros given) → code (checked cs zeros given) ≡ 0 → checked cs zeros given ≡ given
+gives {A} {cs} {code} {zeros} given demand e = goes cs (demand.passed.0 e) zeros given
 
--- the same of one that has a least too
-pub spans : (n least limit : ℕ) (k : Code) → T (coded (span_check n least limit k ∷ []))
-    → Makes (span_check n least limit k ∷ []) (λ (r : ℕ). r) (λ r. r) 0
-spans n least limit k t = makes refl (λ r. refl) t
+-- ---- a value that is made on the way
 
--- checks one after the other: what the second says counts where the first had no code
-pub then : {cs ds : List Check} {j k : ℕ} {Left Right : Type 0} → T (coded cs) → Says cs j Left → (j ≡ 0 → Says ds k Right)
-    → (n : ℕ) → n ≡ earlier j k → Says (cs ++ ds) n (Left × Right)
-then {cs} {ds} {j} {k} t s r n e =
-    record {
-      code_is = e ∙ in_turn cs ds t j k s.code_is (λ z. (r z).code_is);
-      made = λ z. let w = neither_code j k (sym e ∙ z) in (s.made w.0, (r w.0).made w.1);
-    }
+-- a refusal has its number alone
+numbered_back : (r : Refusal) → numbered_in order (number (failed r)) ≡ r
+numbered_back BadM = refl
+numbered_back BadA = refl
+numbered_back BadDepth = refl
+numbered_back BadEstimate = refl
+numbered_back BadN = refl
+numbered_back NoUpperEnd = refl
+numbered_back BadLength = refl
+numbered_back ShortAnswers = refl
+numbered_back BadReserved = refl
+numbered_back BadX = refl
+numbered_back NoFlybyEnd = refl
+numbered_back BadMethod = refl
+
+-- so a value that is made on the way is an answer too, whose refusals are only a code
+pub as_checked : {A : Type 0} (value : A) (cs : List Check) → allowed cs value ≡ checked cs only_code (Ok value)
+as_checked value [] = refl
+as_checked {A} value (c ∷ cs) =
+    ap₂ (λ (x y : Result A Refusal). cond c.fails x y) (ap Err (sym (numbered_back c.code))) (as_checked value cs)
+
+pub makes_value : {A : Type 0} (value : A) (cs : List Check) → T (coded cs) → Refuses cs code_in only_code (allowed cs value)
+makes_value {A} value cs t =
+    subst (Refuses cs code_in only_code) (sym (as_checked value cs)) (refuses code_in only_code (Ok value) refl cs (own cs) t)
+  where
+    own : (ds : List Check) → Own {A = Result A Refusal} code_in only_code ds
+    own [] = tt
+    own (c ∷ ds) = (ap (λ r. number (failed r)) (numbered_back c.code), own ds)
+
+pub gives_value : {A : Type 0} (value : A) (cs : List Check) → T (coded cs) → code_in (allowed cs value) ≡ 0 → allowed cs value ≡ Ok value
+gives_value {A} value cs t e =
+    let passed = (makes_value value cs t).passed.0 e in
+    as_checked value cs ∙ goes cs passed only_code (Ok value)
+
+-- no refusal has the code of a call that is done
+not_zero : (r : Refusal) → eqb (number (failed r)) 0 ≡ false
+not_zero BadM = refl
+not_zero BadA = refl
+not_zero BadDepth = refl
+not_zero BadEstimate = refl
+not_zero BadN = refl
+not_zero NoUpperEnd = refl
+not_zero BadLength = refl
+not_zero ShortAnswers = refl
+not_zero BadReserved = refl
+not_zero BadX = refl
+not_zero NoFlybyEnd = refl
+not_zero BadMethod = refl
+
+-- the code of checks one after the other
+pub in_turn : (cs ds : List Check) → number (first_code (cs ++ ds)) ≡ earlier (number (first_code cs)) (number (first_code ds))
+in_turn [] ds = refl
+in_turn (c ∷ cs) ds = step c.fails (in_turn cs ds)
+  where
+    step : (b : Bool) → number (first_code (cs ++ ds)) ≡ earlier (number (first_code cs)) (number (first_code ds))
+        → number (cond b (failed c.code) (first_code (cs ++ ds)))
+        ≡ earlier (number (cond b (failed c.code) (first_code cs))) (number (first_code ds))
+    step true rest = rw (not_zero c.code) refl
+    step false rest = rest
 
 -- a function of an answer is an answer with that function of each refusal, and of what is given
 pub through : {A B : Type 0} (f : A → B) (zeros : ℕ → A) (given : A) (cs : List Check)
     → f (checked cs zeros given) ≡ checked cs (λ (k : ℕ). f (zeros k)) (f given)
 through f zeros given [] = refl
 through {A} {B} f zeros given (c ∷ cs) =
-    either c.fails (zeros (number c.code)) (checked cs zeros given)
-    ∙ ap (λ (b : B). cond c.fails (f (zeros (number c.code))) b) (through f zeros given cs)
+    either c.fails (zeros (number (failed c.code))) (checked cs zeros given)
+    ∙ ap (λ (b : B). cond c.fails (f (zeros (number (failed c.code)))) b) (through f zeros given cs)
   where
     either : (t : Bool) (x y : A) → f (cond t x y) ≡ cond t (f x) (f y)
     either true x y = refl
@@ -143,7 +168,7 @@ through {A} {B} f zeros given (c ∷ cs) =
 pub alike_refused : {A : Type 0} (f g : ℕ → A) → ((k : ℕ) → f k ≡ g k) → (given : A) (cs : List Check) → checked cs f given ≡ checked cs g given
 alike_refused f g h given [] = refl
 alike_refused {A} f g h given (c ∷ cs) =
-    ap₂ (λ (x y : A). cond c.fails x y) (h (number c.code)) (alike_refused f g h given cs)
+    ap₂ (λ (x y : A). cond c.fails x y) (h (number (failed c.code))) (alike_refused f g h given cs)
 
 -- answers that give the same where every check passes
 pub alike_given : {A : Type 0} (zeros : ℕ → A) (x y : A) (cs : List Check) → (Passed cs → x ≡ y) → checked cs zeros x ≡ checked cs zeros y
@@ -151,6 +176,6 @@ alike_given zeros x y [] h = h tt
 alike_given {A} zeros x y (c ∷ cs) h = by_check c.fails (λ e. alike_given zeros x y cs (λ p. h (e, p)))
   where
     by_check : (t : Bool) → (t ≡ false → checked cs zeros x ≡ checked cs zeros y)
-        → cond t (zeros (number c.code)) (checked cs zeros x) ≡ cond t (zeros (number c.code)) (checked cs zeros y)
+        → cond t (zeros (number (failed c.code))) (checked cs zeros x) ≡ cond t (zeros (number (failed c.code))) (checked cs zeros y)
     by_check true f = refl
     by_check false f = f refl

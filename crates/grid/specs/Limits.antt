@@ -1,12 +1,7 @@
--- The limits that the checked constructors see to, R3: inner functions ask for them. No entry's contract cites this file.
-use Rattle.std.specs.Prelude.{◌≤◌}
-use Rattle.grid.specs.Grid.{T_units, depths}
-use Rattle.grid.specs.declared.Angle.{Angle}
-use Rattle.grid.specs.declared.Depth.{Depth}
+-- The limits of a depth, R3, which hold of each. No entry's contract cites this file.
+use Rattle.std.specs.Prelude.{ℕ, ◌≤◌}
+use Rattle.grid.specs.Grid.{depths}
 
-pub record AngleIn (x : Angle) : Type 0 where
-  pub top : x.units ≤ T_units
-
-pub record DepthIn (d : Depth) : Type 0 where
-  pub some : 1 ≤ d.pairs
-  pub few : d.pairs ≤ depths
+pub record DepthIn (d : ℕ) : Type 0 where
+  pub some : 1 ≤ d
+  pub few : d ≤ depths

@@ -1,34 +1,31 @@
--- The checked ways to make an angle, an eccentricity and a depth, R4: the value, or its code. R7: zeros beside a code.
-use Rattle.std.specs.Prelude.{ℕ, [], ◌∷◌, ℤ, nat_abs}
-use Rattle.grid.specs.Codes.{number, done, checked, x_check, signed_x_check, a_check, depth_check}
-use Rattle.grid.specs.declared.CodedAngle.{CodedAngle}
-use Rattle.grid.specs.declared.CodedEccentricity.{CodedEccentricity}
-use Rattle.grid.specs.declared.CodedDepth.{CodedDepth}
+-- The checked ways to make an angle, an eccentricity and a depth, R4: the value, or why there is none.
+use Rattle.std.specs.Prelude.{ℕ, [], ◌∷◌, ℤ, nat_abs, Result}
+use Rattle.grid.specs.Codes.{allowed, limit_check, signed_x_check, a_check, depth_check}
+use Rattle.grid.specs.declared.codes.Refusal.TheVariants.{BadX}
+use Rattle.grid.specs.Grid.{T_units}
+use Rattle.grid.specs.Flyby.{X_top}
+use Rattle.grid.specs.declared.codes.Refusal.{Refusal}
 
--- R4: a code and an angle
-abbrev pub angle_with : ℕ → ℕ → CodedAngle
-angle_with code x = record { code = code; angle = record { units = x } }
+-- R4: code 10, or the angle up to a top
+abbrev pub angle_up_to : ℕ → ℕ → Result ℕ Refusal
+angle_up_to top x = allowed (limit_check x top BadX ∷ []) x
 
--- R4: code 10, or the angle
-abbrev pub coded_angle : ℕ → CodedAngle
-coded_angle x = checked (x_check x ∷ []) (λ k. angle_with k 0) (angle_with (number done) x)
+-- R4: the same of an orbit's
+abbrev pub coded_angle : ℕ → Result ℕ Refusal
+coded_angle x = angle_up_to T_units x
 
 -- R4: the same of a number that has a sign
-abbrev pub coded_signed : ℤ → CodedAngle
-coded_signed x = checked (signed_x_check x ∷ []) (λ k. angle_with k 0) (angle_with (number done) (nat_abs x))
+abbrev pub coded_signed : ℤ → Result ℕ Refusal
+coded_signed x = allowed (signed_x_check x ∷ []) (nat_abs x)
 
--- R4: a code and an eccentricity
-abbrev pub eccentricity_with : ℕ → ℕ → CodedEccentricity
-eccentricity_with code a = record { code = code; eccentricity = record { units = a } }
+-- R81: the same of a flyby's
+abbrev pub coded_flyby_angle : ℕ → Result ℕ Refusal
+coded_flyby_angle x = angle_up_to X_top x
 
 -- R4: code 2, or the eccentricity
-abbrev pub coded_eccentricity : ℕ → CodedEccentricity
-coded_eccentricity a = checked (a_check a ∷ []) (λ k. eccentricity_with k 0) (eccentricity_with (number done) a)
-
--- R4: a code and a depth
-abbrev pub depth_with : ℕ → ℕ → CodedDepth
-depth_with code d = record { code = code; depth = record { pairs = d } }
+abbrev pub coded_eccentricity : ℕ → Result ℕ Refusal
+coded_eccentricity a = allowed (a_check a ∷ []) a
 
 -- R4: code 3, or the depth
-abbrev pub coded_depth : ℕ → CodedDepth
-coded_depth d = checked (depth_check d ∷ []) (λ k. depth_with k 0) (depth_with (number done) d)
+abbrev pub coded_depth : ℕ → Result ℕ Refusal
+coded_depth d = allowed (depth_check d ∷ []) d

@@ -1,55 +1,73 @@
-// R5: the code of each refusal. R6: of those that apply the first of 7, 8, 9, 1, 2, 3, 10, 4, 5, 6, 15, 21 is answered.
-ghost use Rattle.std.specs.Prelude.{◌≡◌, cond, ltb};
-ghost use Rattle.grid.specs.Codes.{or, earlier};
+// R5: why a call is refused, with the code of each reason. R6: of those that apply the first of 7, 8, 9, 1, 2, 3, 10, 4, 5, 6, 15, 21
+// is answered.
+ghost use Rattle.std.specs.Prelude.{◌≡◌, cond, ltb, Ok, Err};
+ghost use Rattle.grid.specs.Codes.{number, failed, or};
 
+use std::error::Error;
+use std::fmt;
+
+// The code of a call that is not refused.
 pub const DONE: u32 = 0;
 
-pub const BAD_M: u32 = 1;
-
-pub const BAD_A: u32 = 2;
-
-pub const BAD_DEPTH: u32 = 3;
-
-pub const BAD_ESTIMATE: u32 = 4;
-
-pub const BAD_N: u32 = 5;
-
-pub const NO_UPPER_END: u32 = 6;
-
-pub const BAD_LENGTH: u32 = 7;
-
-pub const SHORT_ANSWERS: u32 = 8;
-
-pub const BAD_RESERVED: u32 = 9;
-
-pub const BAD_X: u32 = 10;
-
-pub const NO_FLYBY_END: u32 = 15;
-
-pub const BAD_METHOD: u32 = 21;
-
-// The code of a number above its limit, else DONE.
-pub fn limited(n: u32, limit: u32, code: u32) -> u32
-    ensures { result ≡ cond (ltb limit n) code 0 }
-{
-    if n <= limit { DONE } else { code }
+#[derive(Clone, Copy, Debug, PartialEq, Eq)]
+pub enum Refusal {
+    BadM = 1,
+    BadA = 2,
+    BadDepth = 3,
+    BadEstimate = 4,
+    BadN = 5,
+    NoUpperEnd = 6,
+    BadLength = 7,
+    ShortAnswers = 8,
+    BadReserved = 9,
+    BadX = 10,
+    NoFlybyEnd = 15,
+    BadMethod = 21,
 }
 
-// The code of a number below its least or above its limit, else DONE.
-pub fn spanned(n: u32, least: u32, limit: u32, code: u32) -> u32
-    ensures { result ≡ cond (or (ltb n least) (ltb limit n)) code 0 }
-{
-    if least <= n {
-        if n <= limit {
-            return DONE;
-        }
+impl Refusal {
+    pub fn code(self) -> u32
+        ensures { result ≡ number (failed self) }
+    {
+        self as u32
     }
-    code
 }
 
-// The code of two lists of checks, one after the other.
-pub fn earlier(code: u32, next: u32) -> u32
-    ensures { result ≡ earlier code next }
+impl fmt::Display for Refusal {
+    fn fmt<W: fmt::Write>(&self, f: &mut fmt::Formatter<W>) -> fmt::Result {
+        f.write_str(match self {
+            Refusal::BadM => "the mean anomaly is out of its limits",
+            Refusal::BadA => "the eccentricity is out of its limits",
+            Refusal::BadDepth => "the depth is not 1 to 5",
+            Refusal::BadEstimate => "the estimate is out of its limits",
+            Refusal::BadN => "the tolerance is above its limit",
+            Refusal::NoUpperEnd => "the largest angle is not accepted as an upper end",
+            Refusal::BadLength => "the claims are no whole number of records",
+            Refusal::ShortAnswers => "there is no room for the answers",
+            Refusal::BadReserved => "a reserved byte is not 0",
+            Refusal::BadX => "the angle is out of its limits",
+            Refusal::NoFlybyEnd => "the largest X is not accepted as an upper end",
+            Refusal::BadMethod => "the method is neither 1 nor 2",
+        })
+    }
+}
+
+impl Error for Refusal {}
+
+// A number that is not below its least nor above its limit.
+pub fn spanned<R: Copy>(n: u32, least: u32, limit: u32, refusal: R) -> Result<u32, R>
+    ensures { result ≡ cond (or (ltb n least) (ltb limit n)) (Err refusal) (Ok n) }
 {
-    if code == DONE { next } else { code }
+    if (least..=limit).contains(&n) {
+        Ok(n)
+    } else {
+        Err(refusal)
+    }
+}
+
+// A number that is not above its limit.
+pub fn limited<R: Copy>(n: u32, limit: u32, refusal: R) -> Result<u32, R>
+    ensures { result ≡ cond (ltb limit n) (Err refusal) (Ok n) }
+{
+    spanned(n, 0, limit, refusal)
 }

@@ -1,143 +1,144 @@
 // The grid on which the user's numbers stand, and the codes of what stands outside it.
 #![tactic(auto)]
 
-ghost use Rattle.std.specs.Prelude.{◌≡◌, ◌+◌, ◌-◌, min};
-ghost use Rattle.grid.specs.Make.{coded_angle, coded_signed, coded_eccentricity, coded_depth};
+ghost use Rattle.std.specs.Prelude.{◌≡◌, ◌+◌, ◌-◌, ◌≤◌, ℕ, min};
+ghost use Rattle.grid.specs.Grid.{one, T_units};
+ghost use Rattle.grid.specs.Limits.{DepthIn};
+ghost use Rattle.grid.specs.Make.{angle_up_to, coded_signed, coded_eccentricity, coded_depth};
+
+use codes::Refusal;
+use std::marker::Model;
 
 pub mod codes;
 
-// An angle of 0 to T units; one unit is 2^-28 radian.
-#[derive(Clone, Copy)]
-pub struct Angle {
+// An angle of 0 to TOP units; one unit is 2^-28 radian.
+#[derive(Clone, Copy, Debug, PartialEq, Eq)]
+pub struct AngleTo<const TOP: u64> {
     pub units: u64,
 }
 
-// A code, and with code 0 the angle.
-#[derive(Clone, Copy)]
-pub struct CodedAngle {
-    pub code: u32,
-    pub angle: Angle,
+impl<const TOP: u64> Model for AngleTo<TOP> {
+    ghost Value = { ℕ };
+
+    ghost view = { λ x. x.units };
+
+    ghost invariant = { λ x. x.units ≤ TOP };
+
+    ghost inverse = { λ n. record { units = n } };
 }
+
+// Of an orbit's, up to T.
+pub type Angle = AngleTo<T>;
+
+// Of a flyby's, up to two radians.
+pub type FlybyAngle = AngleTo<FLYBY_UNITS>;
 
 impl Angle {
     // The largest size of a mean anomaly, the whole part of pi times 2^28.
     pub const H: u32 = 843_314_856;
     // The largest angle tested, H + 64.
-    pub const T: u32 = 843_314_920;
+    pub const T: u32 = T as u32;
+}
 
-    pub fn new(units: u32) -> CodedAngle
-        ensures { result ≡ coded_angle units }
-    {
-        if units <= Angle::T {
-            CodedAngle {
-                code: codes::DONE,
-                angle: Angle {
-                    units: units as u64,
-                },
-            }
+impl<const TOP: u64> TryFrom<u32> for AngleTo<TOP> {
+    type Error = Refusal;
+
+    ghost try_from_gives = { λ n r. r ≡ angle_up_to TOP n };
+
+    fn try_from(units: u32) -> Result<Self, Refusal> {
+        let units = u64::from(units);
+        if units <= TOP {
+            Ok(AngleTo { units })
         } else {
-            CodedAngle {
-                code: codes::BAD_X,
-                angle: Angle { units: 0 },
-            }
+            Err(Refusal::BadX)
         }
     }
+}
 
-    // Of a number that may be below 0, where no angle is.
-    pub fn of_signed(z: i64) -> CodedAngle
-        ensures { result ≡ coded_signed z }
-    {
-        if 0 <= z {
-            let units = z as u64;
-            if units <= T {
-                return CodedAngle {
-                    code: codes::DONE,
-                    angle: Angle { units },
-                };
-            }
-        }
-        CodedAngle {
-            code: codes::BAD_X,
-            angle: Angle { units: 0 },
+// Of a number that may be below 0, where no angle is.
+impl TryFrom<i64> for Angle {
+    type Error = Refusal;
+
+    ghost try_from_gives = { λ z r. r ≡ coded_signed z };
+
+    fn try_from(z: i64) -> Result<Self, Refusal> {
+        if (0..=T as i64).contains(&z) {
+            Ok(Angle { units: z as u64 })
+        } else {
+            Err(Refusal::BadX)
         }
     }
 }
 
 // An eccentricity of A / 2^28, with A from 0 to 2^28.
-#[derive(Clone, Copy)]
+#[derive(Clone, Copy, Debug, PartialEq, Eq)]
 pub struct Eccentricity {
     pub units: u64,
 }
 
-// A code, and with code 0 the eccentricity.
-#[derive(Clone, Copy)]
-pub struct CodedEccentricity {
-    pub code: u32,
-    pub eccentricity: Eccentricity,
+impl Model for Eccentricity {
+    ghost Value = { ℕ };
+
+    ghost view = { λ e. e.units };
+
+    ghost invariant = { λ e. e.units ≤ one };
+
+    ghost inverse = { λ n. record { units = n } };
 }
 
 impl Eccentricity {
     // A for e = 1, and one radian in units.
     pub const ONE: u32 = 268_435_456;
+}
 
-    pub fn new(units: u32) -> CodedEccentricity
-        ensures { result ≡ coded_eccentricity units }
-    {
-        if units <= Eccentricity::ONE {
-            CodedEccentricity {
-                code: codes::DONE,
-                eccentricity: Eccentricity {
-                    units: units as u64,
-                },
-            }
-        } else {
-            CodedEccentricity {
-                code: codes::BAD_A,
-                eccentricity: Eccentricity { units: 0 },
-            }
-        }
+impl TryFrom<u32> for Eccentricity {
+    type Error = Refusal;
+
+    ghost try_from_gives = { λ n r. r ≡ coded_eccentricity n };
+
+    fn try_from(units: u32) -> Result<Self, Refusal> {
+        let units = u64::from(codes::limited(units, Eccentricity::ONE, Refusal::BadA)?);
+        Ok(Eccentricity { units })
     }
 }
 
 // How many pairs of terms are used: 1 to 5.
-#[derive(Clone, Copy)]
+#[derive(Clone, Copy, Debug, PartialEq, Eq)]
 pub struct Depth {
     pub pairs: u32,
 }
 
-// A code, and with code 0 the depth.
-#[derive(Clone, Copy)]
-pub struct CodedDepth {
-    pub code: u32,
-    pub depth: Depth,
+impl Model for Depth {
+    ghost Value = { ℕ };
+
+    ghost view = { λ d. d.pairs };
+
+    ghost invariant = { λ d. DepthIn d.pairs };
+
+    ghost inverse = { λ n. record { pairs = n } };
 }
 
 impl Depth {
     pub const LEAST: u32 = 1;
 
     pub const GREATEST: u32 = 5;
+}
 
-    pub fn new(pairs: u32) -> CodedDepth
-        ensures { result ≡ coded_depth pairs }
-    {
-        if Depth::LEAST <= pairs {
-            if pairs <= Depth::GREATEST {
-                return CodedDepth {
-                    code: codes::DONE,
-                    depth: Depth { pairs },
-                };
-            }
-        }
-        CodedDepth {
-            code: codes::BAD_DEPTH,
-            depth: Depth { pairs: 0 },
-        }
+impl TryFrom<u32> for Depth {
+    type Error = Refusal;
+
+    ghost try_from_gives = { λ n r. r ≡ coded_depth n };
+
+    fn try_from(pairs: u32) -> Result<Self, Refusal> {
+        let pairs = codes::spanned(pairs, Depth::LEAST, Depth::GREATEST, Refusal::BadDepth)?;
+        Ok(Depth { pairs })
     }
 }
 
-// T and one radian, for angles in 64 bits.
-pub const T: u64 = Angle::T as u64;
+// The largest angle tested, H + 64.
+pub const T: u64 = 843_314_920;
 
+// One radian, for angles in 64 bits.
 pub const ONE: u64 = Eccentricity::ONE as u64;
 
 // R81: the largest mean anomaly of a flyby, in units; B of its eccentricity B / 2^28, from e = 1 to e = 4; and the largest X tested,
@@ -150,21 +151,19 @@ pub const FLYBY_B: u32 = 1_073_741_824;
 
 pub const FLYBY_TOP: u32 = 536_870_912;
 
+// The same in 64 bits.
+const FLYBY_UNITS: u64 = FLYBY_TOP as u64;
+
 // n units below x, or 0 where that is below 0.
 pub fn step_down(x: u64, n: u64) -> u64
     ensures { result ≡ x - n }
 {
-    if x < n { 0 } else { x - n }
+    x.saturating_sub(n)
 }
 
 // n units above x, or the top where that is above it.
 pub fn step_up(x: u64, n: u64, top: u64) -> u64
     ensures { result ≡ min (x + n) top }
 {
-    if x <= top {
-        if n <= top - x {
-            return x + n;
-        }
-    }
-    top
+    x.saturating_add(n).min(top)
 }

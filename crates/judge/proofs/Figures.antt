@@ -10,7 +10,7 @@ use native.Mathlib.Decide.{dec_le}
 use lib.Dec.{T}
 use Rattle.grid.specs.Grid.{one, H_units, T_units, depths}
 use Rattle.orbit.specs.Cell.{grid_cell}
-use Rattle.orbit.specs.declared.Cell.{Cell}
+use Rattle.orbit.specs.Cell.{Cell}
 use Rattle.ends.specs.Ends.{lower_end, upper_end}
 use Rattle.ends.proofs.Known.{zero_lower, T_upper}
 use Rattle.ends.proofs.Steep.{past_accepted, past_refused}

@@ -8,7 +8,7 @@ use lib.Dec.{T}
 use Rattle.grid.specs.Grid.{T_units, depths}
 use Rattle.orbit.specs.Cell.{CellIn}
 use Rattle.orbit.specs.Given.{Given, cell_of}
-use Rattle.orbit.specs.declared.Cell.{Cell}
+use Rattle.orbit.specs.Cell.{Cell}
 use Rattle.ends.specs.Ends.{lower_end, upper_end}
 use Rattle.ends.specs.Exact.{ExactAt}
 use Rattle.ends.proofs.Mirror.{end_true}

@@ -10,16 +10,17 @@ use lib.Dec.{T}
 use lib.Ieee.{Float}
 use Rattle.grid.specs.Grid.{depths}
 use Rattle.grid.specs.Codes.{Passed, number, done}
-use Rattle.grid.proofs.Refuses.{Makes, makes}
+use Rattle.grid.specs.Refuses.{Refuses}
+use Rattle.grid.proofs.FirstCode.{goes}
+use Rattle.grid.proofs.Refuses.{makes}
 use Rattle.grid.proofs.Fits.{depth_passes}
 use Rattle.orbit.specs.Given.{Given}
 use Rattle.judge.specs.Verdict.{verdict_number}
-use Rattle.judge.specs.Judge.{claim_of, claim_checks, case_at, verdict, judge_rule}
+use Rattle.judge.specs.Judge.{Case, claim_of, claim_checks, case_at, verdict, judge_rule}
 use Rattle.judge.specs.Settle.{decides, verdict_at, settled_depth, settled_as, settled_by, unsettled, settle_checks, settle_rule}
 use Rattle.judge.specs.Decision.{settled_rule}
 use Rattle.judge.specs.Exact.{ConfirmedExact, AboveExact, BelowExact}
 use Rattle.judge.specs.Limits.{CaseIn}
-use Rattle.judge.specs.declared.Case.{Case}
 use Rattle.judge.specs.declared.Settled.{Settled}
 use Rattle.judge.specs.declared.Verdict.{Verdict}
 use Rattle.judge.specs.declared.Verdict.TheVariants.{Confirmed, Refuted, Undecided}
@@ -38,8 +39,10 @@ not_undecided Refuted e t = omega arith
 not_undecided Undecided e t = t
 
 module _ (g : Given) (x : Float) (n : ℕ) where
-  pub settlings : Makes (settle_checks g x n) (λ (s : Settled). s.code) unsettled (settled_by (case_at (claim_of g x n depths)))
-  settlings = makes refl (λ k. refl) tt
+  pub settlings : Refuses (settle_checks g x n) (λ (s : Settled). s.code) unsettled (settle_rule g x n)
+  unfolding settle_rule
+  settlings =
+      makes (settle_checks g x n) (λ (s : Settled). s.code) unsettled (settled_by (case_at (claim_of g x n depths))) refl (λ k. refl) tt
 
   -- depth 5 is never refused
   pub settle_is : settle_rule g x n ≡ settled_rule (claim_of g x n depths)
@@ -54,8 +57,7 @@ module _ (g : Given) (x : Float) (n : ℕ) where
 
   module _ (z : (settle_rule g x n).code ≡ number done) where
     passed : Passed (settle_checks g x n)
-    unfolding settle_rule
-    passed = settlings.demand.passed.0 z
+    passed = settlings.passed.0 z
 
     passed_at : (d : ℕ) → 1 ≤ d → d ≤ depths → Passed (claim_checks (claim_of g x n d))
     passed_at d some few = (passed.0, (passed.1.0, (depth_passes d some few, passed.1.1)))
@@ -65,7 +67,7 @@ module _ (g : Given) (x : Float) (n : ℕ) where
 
     answer : settle_rule g x n ≡ settled_by case
     unfolding settle_rule
-    answer = (settlings.says (settle_rule g x n) refl).made z
+    answer = goes (settle_checks g x n) passed unsettled (settled_by case)
 
     depth_is : (settle_rule g x n).depth ≡ settled_depth case
     depth_is = ap (λ (s : Settled). s.depth) answer

@@ -1,30 +1,34 @@
 -- R62: which depth is the first to decide, from the least depths of the tests behind a verdict; and that its verdict is the last
 -- depth's. Assumes nothing.
-use mathlib.Core.Path.{◌≡◌, refl, sym, ap, subst}
+use mathlib.Core.Path.{◌≡◌, refl, sym, ap, ap₂, subst}
 use mathlib.Core.Bool.{Bool, true, false, not, cond, ◌||◌}
 use mathlib.Core.Logic.{◌⊎◌, inl, inr, ⊎_elim}
 use Prim.Native.Nat.{ℕ, ◌+◌, ◌-◌, ◌≤◌, ◌<◌}
 use native.Mathlib.Omega.{arith}
 use native.Mathlib.Nat.{eq-or-lt_of_le}
+use Rattle.std.specs.Prelude.{Option, Some, None}
 use lib.Dec.{T, leb, leb→le, T_not, not_T}
 use Rattle.whole.specs.First.{first_from}
 use Rattle.whole.proofs.Bools.{both_parts, either_part, either}
 use Rattle.whole.proofs.First.{First, first, only}
 use Rattle.grid.specs.Grid.{T_units, depths}
 use Rattle.orbit.specs.Cell.{CellIn}
-use Rattle.orbit.specs.declared.Cell.{Cell}
+use Rattle.orbit.specs.Cell.{Cell}
 use Rattle.ends.specs.Ends.{lower_end, upper_end}
+use Rattle.ends.specs.Least.{from_least}
 use Rattle.ends.proofs.Apart.{apart}
 use Rattle.ends.proofs.Least.{Least}
 use Rattle.units.specs.Limits.{UnitsIn}
 use Rattle.units.specs.declared.Units.{Units}
 use Rattle.judge.specs.Verdict.{refuted_by, verdict_by, tests_at, confirmed, lower_above, upper_below, refuted, verdict_of}
 use Rattle.judge.specs.Settle.{decides, verdict_at, settled_depth}
+use Rattle.judge.specs.Judge.{Case}
+use Rattle.judge.specs.Decision.{decided, decided_by, decision}
 use Rattle.judge.specs.Limits.{CaseIn}
-use Rattle.judge.specs.declared.Case.{Case}
 use Rattle.judge.specs.declared.Verdict.{Verdict}
 use Rattle.judge.specs.declared.Verdict.TheVariants.{Confirmed, Refuted, Undecided}
 use Rattle.judge.proofs.Verdicts as verdicts
+use Rattle.judge.proofs.Decides.{not_last, is_least, decided-verdict}
 use Rattle.judge.proofs.Kept.{confirmed_deeper, above_deeper, below_deeper, never_both, confirmed_kept, refuted_kept}
 
 -- what a depth decides, it confirms or refutes
@@ -163,26 +167,63 @@ module _ (c : Cell) (u : Units) (n : ℕ) where
   decided_kept i w d e h j Refuted p t = refuted_kept c u n d e h j i w.ceiling p
   decided_kept i w d e h j Undecided p t = absurd t
 
--- ---- of a case: the depth is one of those tried, and every depth from it on has its verdict
+-- ---- what is decided by the tests of a case
 
 module _ (k : Case) (h : CaseIn k) where
-  searched : First (λ d. decides (verdict_at k d)) 1 (k.problem.depth.pairs - 1) (settled_depth k)
+  abbrev last : ℕ
+  last = k.problem.depth
+
+  abbrev confirms : ℕ → Bool
+  confirms d = confirmed k.problem.cell d k.units k.tolerance
+
+  abbrev above : ℕ → Bool
+  above d = lower_above k.problem.cell d k.units k.tolerance
+
+  abbrev below : ℕ → Bool
+  below d = upper_below k.problem.cell d k.units k.tolerance
+
+  the_depth : (a b c : Option ℕ) → a ≡ from_least confirms last → b ≡ from_least above last → c ≡ from_least below last
+      → (decided a b c last).depth ≡ settled_depth k
   unfolding settled_depth
-  searched = first (λ d. decides (verdict_at k d)) 1 (k.problem.depth.pairs - 1)
+  the_depth (Some d) b c p q r =
+      sym (by_confirmed k.problem.cell k.units k.tolerance last h.problem.cell h.units h.problem.depth.few d
+      (is_least confirms last h.problem.depth.some p))
+  the_depth None (Some d) c p q r =
+      sym (by_above k.problem.cell k.units k.tolerance last h.problem.cell h.units h.problem.depth.few d (not_last confirms last p)
+      (is_least above last h.problem.depth.some q))
+  the_depth None None (Some d) p q r =
+      sym (by_below k.problem.cell k.units k.tolerance last d (not_last confirms last p) (not_last above last q)
+      (is_least below last h.problem.depth.some r))
+  the_depth None None None p q r =
+      sym (by_none k.problem.cell k.units k.tolerance last h.problem.depth.some (not_last confirms last p) (not_last above last q)
+      (not_last below last r))
+
+  pub decision_is : decided_by (tests_at k.problem.cell) k.units k.tolerance last ≡ decision k
+  decision_is =
+      ap₂ (λ (v : Verdict) (d : ℕ). record { verdict = v; depth = d })
+      (decided-verdict (tests_at k.problem.cell) k.units k.tolerance last)
+      (the_depth (from_least confirms last) (from_least above last) (from_least below last) refl refl refl)
+
+-- ---- the depth for which a case settles
+
+module _ (k : Case) (h : CaseIn k) where
+  searched : First (λ d. decides (verdict_at k d)) 1 (k.problem.depth - 1) (settled_depth k)
+  unfolding settled_depth
+  searched = first (λ d. decides (verdict_at k d)) 1 (k.problem.depth - 1)
 
   pub depth_some : 1 ≤ settled_depth k
   depth_some = searched.from
 
-  pub depth_few : settled_depth k ≤ k.problem.depth.pairs
+  pub depth_few : settled_depth k ≤ k.problem.depth
   depth_few = let t = searched.to in omega (arith, h.problem.depth.some)
 
   pub before_depth : (d : ℕ) → 1 ≤ d → d < settled_depth k → T (not (decides (verdict_at k d)))
   before_depth = searched.before
 
-  pub at_depth_lem : settled_depth k < k.problem.depth.pairs → T (decides (verdict_at k (settled_depth k)))
+  pub at_depth_lem : settled_depth k < k.problem.depth → T (decides (verdict_at k (settled_depth k)))
   at_depth_lem l = searched.here (omega arith)
 
-  pub from_depth : (d : ℕ) → settled_depth k ≤ d → d ≤ k.problem.depth.pairs → verdict_at k d ≡ verdict_at k (settled_depth k)
+  pub from_depth : (d : ℕ) → settled_depth k ≤ d → d ≤ k.problem.depth → verdict_at k d ≡ verdict_at k (settled_depth k)
   from_depth d l m =
       ⊎_elim (λ e. ap (verdict_at k) (sym e))
       (λ s.

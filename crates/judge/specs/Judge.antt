@@ -2,11 +2,12 @@
 use Rattle.std.specs.Prelude.{ℕ, List, [], ◌∷◌, ◌++◌, Float}
 use Rattle.grid.specs.Codes.{Check, number, done, checked, n_check}
 use Rattle.orbit.specs.Given.{Given, mirrored_of, cell_of, problem_checks, problem_at}
+use Rattle.orbit.specs.declared.pose.Problem.{Problem}
 use Rattle.units.specs.Units.{mirror_double, estimate_check, floor_and_ceiling}
+use Rattle.units.specs.declared.Units.{Units}
 use Rattle.judge.specs.Verdict.{verdict_of, verdict_number}
 use Rattle.judge.specs.declared.Judged.{Judged}
 use Rattle.judge.specs.declared.Verdict.{Verdict}
-use Rattle.judge.specs.declared.Case.{Case}
 
 -- R48: what is judged: a problem, an estimate in radians, the tolerance N and the depth
 pub record Claim : Type 0 where
@@ -26,7 +27,13 @@ estimate_of c = mirror_double (mirrored_of c.given) c.estimate
 abbrev pub claim_checks : Claim → List Check
 claim_checks c = problem_checks c.given c.depth ++ estimate_check (estimate_of c) ∷ n_check c.n ∷ []
 
--- R48: a claim whose checks pass: a problem, f and c, and N
+-- R48: what a claim comes to: a problem, f and c, and N
+pub record Case : Type 0 where
+  pub problem : Problem
+  pub units : Units
+  pub tolerance : ℕ
+
+-- R48: a claim whose checks pass
 abbrev pub case_at : Claim → Case
 case_at c =
     record {
@@ -37,7 +44,7 @@ case_at c =
 
 -- R45: the verdict on a case
 abbrev pub case_verdict : Case → Verdict
-case_verdict k = verdict_of k.problem.cell k.problem.depth.pairs k.units k.tolerance
+case_verdict k = verdict_of k.problem.cell k.problem.depth k.units k.tolerance
 
 -- R48: the answer that gives a verdict
 abbrev pub verdict : Verdict → Judged

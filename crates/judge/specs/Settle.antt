@@ -6,8 +6,7 @@ use Rattle.grid.specs.Codes.{Check, number, done, checked, n_check}
 use Rattle.orbit.specs.Given.{Given, mirrored_of, checks_of}
 use Rattle.units.specs.Units.{mirror_double, estimate_check}
 use Rattle.judge.specs.Verdict.{verdict_of, verdict_number}
-use Rattle.judge.specs.Judge.{claim_of, case_at}
-use Rattle.judge.specs.declared.Case.{Case}
+use Rattle.judge.specs.Judge.{Case, claim_of, case_at}
 use Rattle.judge.specs.declared.Settled.{Settled}
 use Rattle.judge.specs.declared.Verdict.{Verdict}
 use Rattle.judge.specs.declared.Verdict.TheVariants.{Confirmed, Refuted, Undecided}
@@ -24,7 +23,7 @@ verdict_at k d = verdict_of k.problem.cell d k.units k.tolerance
 
 -- R62: the depths from 1 on are tried in turn: the first that decides, and the case's own, which is the last, where none does
 unfoldable pub settled_depth : Case → ℕ
-settled_depth k = first_from (λ d. decides (verdict_at k d)) 1 (k.problem.depth.pairs - 1)
+settled_depth k = first_from (λ d. decides (verdict_at k d)) 1 (k.problem.depth - 1)
 
 -- R62: the answer that gives a verdict and a depth
 abbrev pub settled_as : Verdict → ℕ → Settled

@@ -1,7 +1,7 @@
 -- The verdict, R42 to R45, on an estimate in units u with a tolerance n: by any tests of ends, and by those of a cell c at a depth d.
 use Rattle.std.specs.Prelude.{ℕ, ◌+◌, ◌-◌, min, Bool, ◌&&◌, ◌||◌, cond, leb}
 use Rattle.grid.specs.Grid.{T_units}
-use Rattle.orbit.specs.declared.Cell.{Cell}
+use Rattle.orbit.specs.Cell.{Cell}
 use Rattle.ends.specs.Ends.{lower_end, upper_end}
 use Rattle.units.specs.declared.Units.{Units}
 use Rattle.judge.specs.declared.Verdict.{Verdict}

@@ -1,25 +1,82 @@
 // The judge of a claim: does Kepler's equation have its root within N units of an estimate?
 #![tactic(auto)]
 
-ghost use Rattle.std.specs.Prelude.{◌≡◌};
-ghost use Rattle.orbit.specs.Given.{grid, doubles};
-ghost use Rattle.orbit.specs.Posed.{ByProblem, PosedIn};
-ghost use Rattle.judge.specs.Verdict.{confirmed, lower_above, upper_below, verdict_number};
-ghost use Rattle.ends.specs.Least.{least_depth};
+ghost use Rattle.std.specs.Prelude.{◌≡◌, ◌≤◌};
+ghost use Rattle.grid.specs.Grid.{depths};
+ghost use Rattle.grid.specs.Limits.{DepthIn};
+ghost use Rattle.units.specs.Limits.{UnitsUpTo};
+ghost use Rattle.judge.specs.Verdict.{verdict_number};
 ghost use Rattle.judge.specs.Judge.{judge_rule};
 ghost use Rattle.judge.specs.Settle.{settle_rule};
-ghost use Rattle.judge.specs.Decision.{decision, settled_rule};
-ghost use Rattle.judge.specs.Limits.{CaseIn};
+ghost use Rattle.judge.specs.Decision.{tests_by, confirmed_from, above_from, below_from, decided_by, settled_known, judged_answer, settled_answer};
+ghost use Rattle.judge.specs.Limits.{coded_tolerance};
 
+use ends::Tested;
+use grid::codes::Refusal;
 use grid::{Angle, Depth, codes};
-use orbit::{CodedProblem, Problem};
+use orbit::pose::{Given, Problem};
+use std::marker::Model;
 use units::Units;
 
-#[derive(Clone, Copy)]
+#[derive(Clone, Copy, Debug, PartialEq, Eq)]
 pub enum Verdict {
     Confirmed,
     Refuted,
     Undecided,
+}
+
+// R45: the number of a verdict.
+impl From<Verdict> for u32 {
+    ghost from_gives = { λ v n. n ≡ verdict_number v };
+
+    fn from(v: Verdict) -> u32 {
+        match v {
+            Verdict::Confirmed => 16,
+            Verdict::Refuted => 17,
+            Verdict::Undecided => 18,
+        }
+    }
+}
+
+// A tolerance of 0 to 65535 units.
+#[derive(Clone, Copy, Debug, PartialEq, Eq)]
+pub struct Tolerance {
+    pub units: u64,
+}
+
+impl Model for Tolerance {
+    ghost use Rattle.std.specs.Prelude.{ℕ, ◌≤◌};
+    ghost use Rattle.grid.specs.Grid.{N_units};
+
+    ghost Value = { ℕ };
+
+    ghost view = { λ n. n.units };
+
+    ghost invariant = { λ n. n.units ≤ N_units };
+
+    ghost inverse = { λ n. record { units = n } };
+}
+
+impl Tolerance {
+    pub const GREATEST: u32 = 65_535;
+}
+
+impl TryFrom<u32> for Tolerance {
+    type Error = Refusal;
+
+    ghost try_from_gives = { λ n r. r ≡ coded_tolerance n };
+
+    fn try_from(units: u32) -> Result<Self, Refusal> {
+        let units = u64::from(codes::limited(units, Tolerance::GREATEST, Refusal::BadN)?);
+        Ok(Tolerance { units })
+    }
+}
+
+// A verdict, and the least depth that gives it: 1 to 5, and the last where no depth decides.
+#[derive(Clone, Copy, Debug, PartialEq, Eq)]
+pub struct Decision {
+    pub verdict: Verdict,
+    pub depth: u32,
 }
 
 // A code, and with code 0 the verdict's number: 16, 17 or 18.
@@ -30,7 +87,24 @@ pub struct Judged {
     pub verdict: u32,
 }
 
-// A code, and with code 0 the verdict's number and the least depth that gives it: 1 to 5, and 5 where no depth decides.
+impl From<Result<Decision, Refusal>> for Judged {
+    ghost from_gives = { λ known r. r ≡ judged_answer known };
+
+    fn from(known: Result<Decision, Refusal>) -> Self {
+        match known {
+            Ok(decision) => Judged {
+                code: codes::DONE,
+                verdict: u32::from(decision.verdict),
+            },
+            Err(refusal) => Judged {
+                code: refusal.code(),
+                verdict: 0,
+            },
+        }
+    }
+}
+
+// A code, and with code 0 the verdict's number and the least depth that gives it.
 #[repr(C)]
 #[derive(Clone, Copy)]
 pub struct Settled {
@@ -39,194 +113,119 @@ pub struct Settled {
     pub depth: u32,
 }
 
-// The largest tolerance, in units.
-pub const N_LIMIT: u32 = 65_535;
+impl From<Result<Decision, Refusal>> for Settled {
+    ghost from_gives = { λ known r. r ≡ settled_answer known };
 
-pub fn number_of(v: Verdict) -> u32
-    ensures { result ≡ verdict_number v }
-{
-    match v {
-        Verdict::Confirmed => 16,
-        Verdict::Refuted => 17,
-        Verdict::Undecided => 18,
-    }
-}
-
-// A claim whose numbers are all within their limits.
-#[derive(Clone, Copy)]
-pub struct Case {
-    pub problem: Problem,
-    pub units: Units,
-    pub tolerance: u64,
-}
-
-// R43, of the reach p to q of R42: the least depth that confirms, and 0 where none does.
-fn confirmed_from(k: Case) -> u64
-    requires { CaseIn k }
-    ensures { result ≡ least_depth (λ d. confirmed k.problem.cell d k.units k.tolerance) k.problem.depth.pairs }
-{
-    let problem = k.problem;
-    let u = k.units;
-    let p = grid::step_down(u.ceiling, k.tolerance);
-    let q = grid::step_up(u.floor, k.tolerance, grid::T);
-    let low = ends::accepted_from(problem, Angle { units: p }, false);
-    if low == 0 {
-        return 0;
-    }
-    let high = ends::accepted_from(problem, Angle { units: q }, true);
-    if high == 0 {
-        return 0;
-    }
-    if low <= high { high } else { low }
-}
-
-// R44: the least depth with an accepted lower end one unit above q.
-fn lower_above(k: Case) -> u64
-    requires { CaseIn k }
-    ensures { result ≡ least_depth (λ d. lower_above k.problem.cell d k.units k.tolerance) k.problem.depth.pairs }
-{
-    let problem = k.problem;
-    let u = k.units;
-    let units = u.floor + k.tolerance + 1;
-    if units <= grid::T {
-        ends::accepted_from(problem, Angle { units }, false)
-    } else {
-        0
-    }
-}
-
-// R44: the least depth with an accepted upper end one unit below p.
-fn upper_below(k: Case) -> u64
-    requires { CaseIn k }
-    ensures { result ≡ least_depth (λ d. upper_below k.problem.cell d k.units k.tolerance) k.problem.depth.pairs }
-{
-    let problem = k.problem;
-    let u = k.units;
-    let ceiling = u.ceiling;
-    let least = k.tolerance + 1;
-    if least <= ceiling {
-        ends::accepted_from(
-            problem,
-            Angle {
-                units: ceiling - least,
+    fn from(known: Result<Decision, Refusal>) -> Self {
+        match known {
+            Ok(decision) => Settled {
+                code: codes::DONE,
+                verdict: u32::from(decision.verdict),
+                depth: decision.depth,
             },
-            true,
-        )
-    } else {
-        0
+            Err(refusal) => Settled {
+                code: refusal.code(),
+                verdict: 0,
+                depth: 0,
+            },
+        }
     }
 }
 
-// A verdict, and the least depth that gives it.
-#[derive(Clone, Copy)]
-struct Decision {
-    verdict: Verdict,
-    depth: u64,
+// A claim whose numbers are all within their limits: that the root of what is tested lies within a tolerance of an estimate, which
+// is known in whole units.
+#[derive(Drop)]
+pub struct Case<P: Tested> {
+    pub tested: P,
+    pub units: Units,
+    pub tolerance: Tolerance,
+    ghost within: { UnitsUpTo P.TOP units },
+    ghost tried: { DepthIn (P.last tested) },
 }
 
-// The verdict, with no end tested that it doesn't need. No claim has two refuting ends.
-fn decide(k: Case) -> Decision
-    requires { CaseIn k }
-    ensures { result ≡ decision k }
+impl<P: Tested> Case<P> {
+    // R43, of the reach p to q of R42: the least depth that confirms.
+    fn confirmed_from(&self) -> Option<u64>
+        ensures { result ≡ confirmed_from (tests_by (P.test self.now.tested) P.TOP) self.now.units self.now.tolerance (P.last self.now.tested) }
+    {
+        let n = self.tolerance;
+        let p = grid::step_down(self.units.ceiling, n.units);
+        let q = grid::step_up(self.units.floor, n.units, P::TOP);
+        let low = self.tested.accepted_from(p, false)?;
+        let high = self.tested.accepted_from(q, true)?;
+        Some(low.max(high))
+    }
+
+    // R44: the least depth with an accepted lower end one unit above q.
+    fn lower_above(&self) -> Option<u64>
+        ensures { result ≡ above_from (tests_by (P.test self.now.tested) P.TOP) self.now.units self.now.tolerance (P.last self.now.tested) }
+    {
+        let n = self.tolerance;
+        let floor = self.units.floor;
+        let next = n.units + 1;
+        if next <= P::TOP - floor {
+            self.tested.accepted_from(floor + next, false)
+        } else {
+            None
+        }
+    }
+
+    // R44: the least depth with an accepted upper end one unit below p.
+    fn upper_below(&self) -> Option<u64>
+        ensures { result ≡ below_from (tests_by (P.test self.now.tested) P.TOP) self.now.units self.now.tolerance (P.last self.now.tested) }
+    {
+        let n = self.tolerance;
+        let x = self.units.ceiling.checked_sub(n.units + 1)?;
+        self.tested.accepted_from(x, true)
+    }
+
+    // The verdict, with no end tested that it doesn't need. No claim has two refuting ends.
+    pub fn decide(&self) -> Decision
+        ensures { result ≡ decided_by (tests_by (P.test self.now.tested) P.TOP) self.now.units self.now.tolerance (P.last self.now.tested) }
+    {
+        let (verdict, depth) = if let Some(depth) = self.confirmed_from() {
+            (Verdict::Confirmed, depth)
+        } else if let Some(depth) = self.lower_above() {
+            (Verdict::Refuted, depth)
+        } else if let Some(depth) = self.upper_below() {
+            (Verdict::Refuted, depth)
+        } else {
+            (Verdict::Undecided, self.tested.last_depth())
+        };
+        Decision {
+            verdict,
+            depth: depth as u32,
+        }
+    }
+}
+
+// The verdict on a claim about whatever is given and the least depth that gives it, or why there is none: code 1, 2, 3, 4, then 5.
+// On the mirror the estimate is mirrored.
+fn decide_claim<G: Given>(given: G, estimate: f64, n: u32, depth: u32) -> Result<Decision, Refusal>
+    ensures { result ≡ settled_known (record { given = G.given given; estimate = estimate; n = n; depth = depth }) }
 {
-    let depth = confirmed_from(k);
-    if depth != 0 {
-        return Decision {
-            verdict: Verdict::Confirmed,
-            depth,
-        };
-    }
-    let depth = lower_above(k);
-    if depth != 0 {
-        return Decision {
-            verdict: Verdict::Refuted,
-            depth,
-        };
-    }
-    let depth = upper_below(k);
-    if depth != 0 {
-        return Decision {
-            verdict: Verdict::Refuted,
-            depth,
-        };
-    }
-    let problem = k.problem;
-    let last = problem.depth;
-    Decision {
-        verdict: Verdict::Undecided,
-        depth: last.pairs as u64,
-    }
-}
-
-// The verdict on a claim about whatever was given and the least depth that gives it, or its code. On the mirror the estimate is
-// mirrored.
-fn settle_posed(posed: CodedProblem, estimate: f64, n: u32) -> Settled
-    requires { PosedIn posed }
-    ensures { ByProblem posed (λ g d. settled_rule (record { given = g; estimate = estimate; n = n; depth = d })) result }
-{
+    let posed = Problem::pose(given, depth)?;
     let value = units::mirror(estimate, posed.mirrored);
-    let made = units::in_units(value, Angle::T, codes::BAD_ESTIMATE);
-    let n_code = codes::limited(n, N_LIMIT, codes::BAD_N);
-    let code = codes::earlier(posed.code, codes::earlier(made.code, n_code));
-    if code != codes::DONE {
-        return Settled {
-            code,
-            verdict: 0,
-            depth: 0,
-        };
-    }
-    let problem = posed.problem;
-    let units = made.units;
-    let k = Case {
-        problem,
+    let units = units::in_units(value, Angle::T, Refusal::BadEstimate)?;
+    let tolerance = Tolerance::try_from(n)?;
+    let case = Case {
+        tested: posed.of,
         units,
-        tolerance: n as u64,
+        tolerance,
     };
-    let decided = decide(k);
-    let verdict = decided.verdict;
-    Settled {
-        code,
-        verdict: number_of(verdict),
-        depth: decided.depth as u32,
-    }
-}
-
-// The verdict alone.
-fn judge_posed(posed: CodedProblem, estimate: f64, n: u32) -> Judged
-    requires { PosedIn posed }
-    ensures { ByProblem posed (λ g d. judge_rule (record { given = g; estimate = estimate; n = n; depth = d })) result }
-{
-    let s = settle_posed(posed, estimate, n);
-    Judged {
-        code: s.code,
-        verdict: s.verdict,
-    }
+    Ok(case.decide())
 }
 
 // The verdict on a claim, or the code of what is out of limits: 1, 2, 3, 4, then 5.
-pub fn judge(m: i32, a: u32, estimate: f64, n: u32, depth: u32) -> Judged
-    ensures { result ≡ judge_rule (record { given = grid m a; estimate = estimate; n = n; depth = depth }) }
+pub fn judge<G: Given>(given: G, estimate: f64, n: u32, depth: u32) -> Judged
+    ensures { result ≡ judge_rule (record { given = G.given given; estimate = estimate; n = n; depth = depth }) }
 {
-    judge_posed(Problem::new(m, a, depth), estimate, n)
-}
-
-// R60: the same of M in radians and e as doubles.
-pub fn judge_double(m: f64, e: f64, estimate: f64, n: u32, depth: u32) -> Judged
-    ensures { result ≡ judge_rule (record { given = doubles m e; estimate = estimate; n = n; depth = depth }) }
-{
-    judge_posed(Problem::of_doubles(m, e, depth), estimate, n)
+    Judged::from(decide_claim(given, estimate, n, depth))
 }
 
 // R62: the verdict on a claim and the least depth that gives it, or the code of what is out of limits: 1, 2, 4, then 5.
-pub fn settle(m: i32, a: u32, estimate: f64, n: u32) -> Settled
-    ensures { result ≡ settle_rule (grid m a) estimate n }
+pub fn settle<G: Given>(given: G, estimate: f64, n: u32) -> Settled
+    ensures { result ≡ settle_rule (G.given given) estimate n }
 {
-    settle_posed(Problem::new(m, a, Depth::GREATEST), estimate, n)
-}
-
-// R62: the same of M in radians and e as doubles.
-pub fn settle_double(m: f64, e: f64, estimate: f64, n: u32) -> Settled
-    ensures { result ≡ settle_rule (doubles m e) estimate n }
-{
-    settle_posed(Problem::of_doubles(m, e, Depth::GREATEST), estimate, n)
+    Settled::from(decide_claim(given, estimate, n, Depth::GREATEST))
 }

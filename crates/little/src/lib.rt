@@ -8,27 +8,18 @@ ghost use Rattle.little.specs.LittleEndian.{little_endian, twos_complement};
 pub fn signed_word(word: u32) -> i32
     ensures { result ≡ twos_complement word }
 {
-    let wide = word as i64;
-    if word < 0x8000_0000 {
-        wide as i32
-    } else {
-        (wide - 0x1_0000_0000) as i32
-    }
+    word.cast_signed()
 }
 
-// The number of `width` bytes from `at` on. Each byte is shifted to its place, since the compiler then reads a width that
-// it knows in one step.
+// The number of `width` bytes from `at` on: read from the last, each goes below those before it. Shifts alone put them in their
+// places, since the compiler then reads a width that it knows in one step.
 pub fn number_at(bytes: &[u8], at: usize, width: usize) -> u64
     requires width_in_bounds { at + width ≤ length bytes.now }
     requires width_bound { width ≤ 8 }
     ensures { result ≡ little_endian bytes.now at width }
 {
-    let mut number = 0;
-    let mut i = 0;
-    while i < width {
-        let byte = bytes[at + i] as u64;
-        number += byte << (8 * i);
-        i += 1;
-    }
-    number
+    bytes[at..at + width]
+        .iter()
+        .rev()
+        .fold(0, |number, &byte| number << 8 | u64::from(byte))
 }

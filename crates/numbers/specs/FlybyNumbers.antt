@@ -1,7 +1,8 @@
 -- The numbers to hold against, R57, that the five entries of flybys answer.
 use Rattle.std.specs.Prelude.{◌≡◌, Bool, true, false, List, [], ◌∷◌, ℕ, pos}
 use Rattle.grid.specs.Grid.{one}
-use Rattle.grid.specs.Codes.{Code, number, done, bad_m, bad_a, bad_estimate, bad_n, bad_x, no_flyby_end}
+use Rattle.grid.specs.Codes.{Code, number, done, failed}
+use Rattle.grid.specs.declared.codes.Refusal.TheVariants.{BadM, BadA, BadEstimate, BadN, BadX, NoFlybyEnd}
 use Rattle.series.specs.Entry.{no_bounds}
 use Rattle.sinh.specs.Entry.{sinh_rule}
 use Rattle.ends.specs.Entry.{end_refused, flagged}
@@ -51,33 +52,33 @@ sinh_rows =
     ∷ sinh 524288 524288 524298
     ∷ sinh 268435456 315465666 315465676
     ∷ sinh 536870912 973577924 973577934
-    ∷ sinh_code 536870913 bad_x
+    ∷ sinh_code 536870913 (failed BadX)
     ∷ []
 
 unfoldable pub end_rows : List Row
 end_rows =
-    ends_code 0 0 268435455 bad_a
+    ends_code 0 0 268435455 (failed BadA)
     ∷ ends 0 0 one true true
     ∷ ends 0 0 1073741824 true true
-    ∷ ends_code 0 0 1073741825 bad_a
+    ∷ ends_code 0 0 1073741825 (failed BadA)
     ∷ ends 0 2147483647 one true false
-    ∷ ends_code 0 2147483648 one bad_m
+    ∷ ends_code 0 2147483648 one (failed BadM)
     ∷ ends 536870912 0 one false true
-    ∷ ends_code 536870913 0 one bad_x
-    ∷ ends_code 536870913 2147483648 1073741825 bad_m
-    ∷ ends_code 536870913 0 1073741825 bad_a
-    ∷ ends_code 536870913 0 1073741824 bad_x
+    ∷ ends_code 536870913 0 one (failed BadX)
+    ∷ ends_code 536870913 2147483648 1073741825 (failed BadM)
+    ∷ ends_code 536870913 0 1073741825 (failed BadA)
+    ∷ ends_code 536870913 0 1073741824 (failed BadX)
     ∷ []
 
 unfoldable pub enclosure_rows : List Row
 enclosure_rows =
     -- the last M that has an enclosure, for e = 1 and e = 2
     enclosure 436707012 one 536870908 536870912
-    ∷ enclosure_code 436707013 one no_flyby_end
+    ∷ enclosure_code 436707013 one (failed NoFlybyEnd)
     ∷ enclosure 1410284936 536870912 536870908 536870912
-    ∷ enclosure_code 1410284937 536870912 no_flyby_end
+    ∷ enclosure_code 1410284937 536870912 (failed NoFlybyEnd)
     -- the first B with which every M has one
-    ∷ enclosure_code 2147483647 740131757 no_flyby_end
+    ∷ enclosure_code 2147483647 740131757 (failed NoFlybyEnd)
     ∷ enclosure 2147483647 740131758 536870908 536870912
     ∷ enclosure 0 one 0 0
     ∷ enclosure 1 one 0 756157
@@ -98,14 +99,14 @@ judge_rows =
     ∷ judged 268435456 402653184 0x3ff2960f05000000 10 Confirmed
     -- two radians, and the next double
     ∷ judged 0 one 0x4000000000000000 0 Refuted
-    ∷ judge_code 0 one 0x4000000000000001 0 bad_estimate
-    ∷ judge_code 0 one 0x7ff8000000000000 0 bad_estimate
-    ∷ judge_code 0 one 0x7ff0000000000000 0 bad_estimate
-    ∷ judge_code 0 one 0x8000000000000001 0 bad_estimate
-    ∷ judge_code 2147483648 268435455 0x7ff8000000000000 65536 bad_m
-    ∷ judge_code 0 268435455 0x7ff8000000000000 65536 bad_a
-    ∷ judge_code 0 one 0x7ff8000000000000 65536 bad_estimate
-    ∷ judge_code 0 one 0 65536 bad_n
+    ∷ judge_code 0 one 0x4000000000000001 0 (failed BadEstimate)
+    ∷ judge_code 0 one 0x7ff8000000000000 0 (failed BadEstimate)
+    ∷ judge_code 0 one 0x7ff0000000000000 0 (failed BadEstimate)
+    ∷ judge_code 0 one 0x8000000000000001 0 (failed BadEstimate)
+    ∷ judge_code 2147483648 268435455 0x7ff8000000000000 65536 (failed BadM)
+    ∷ judge_code 0 268435455 0x7ff8000000000000 65536 (failed BadA)
+    ∷ judge_code 0 one 0x7ff8000000000000 65536 (failed BadEstimate)
+    ∷ judge_code 0 one 0 65536 (failed BadN)
     ∷ judged 0 one 0 65535 Confirmed
     ∷ []
 

@@ -1,14 +1,15 @@
 -- The numbers to hold against, R57: the starred ones as one list, and beside it the others.
-use Rattle.std.specs.Prelude.{◌≡◌, Bool, true, false, List, [], ◌∷◌, ◌++◌, ℕ, ◌+◌, ◌≤◌, ℤ, pos, negsuc, nat_abs, length}
+use Rattle.std.specs.Prelude.{◌≡◌, Bool, true, false, List, [], ◌∷◌, ◌++◌, ℕ, ◌+◌, ◌≤◌, ℤ, pos, negsuc, nat_abs, length, Ok}
 use Rattle.grid.specs.Grid.{one, H_units, T_units, depths}
-use Rattle.grid.specs.Codes.{Code, number, done, bad_m, bad_a, bad_estimate, bad_x, no_upper_end}
+use Rattle.grid.specs.Codes.{Code, number, done, failed, code_in}
+use Rattle.grid.specs.declared.codes.Refusal.TheVariants.{BadM, BadA, BadEstimate, BadX, NoUpperEnd}
 use Rattle.series.specs.Bounds.{raw_low, raw_high}
 use Rattle.series.specs.Sine as series
 use Rattle.series.specs.Entry.{sine_rule}
 use Rattle.orbit.specs.Given.{Given, grid, doubles}
 use Rattle.ends.specs.Entry.{flagged, lower_rule, upper_rule}
 use Rattle.enclosure.specs.Enclosure.{enclosure_rule}
-use Rattle.units.specs.Units.{units_with, coded_estimate}
+use Rattle.units.specs.Units.{coded_estimate}
 use Rattle.judge.specs.Judge.{claim_of, verdict, judge_rule}
 use Rattle.judge.specs.Settle.{settled_as, settle_rule}
 use Rattle.judge.specs.declared.Judged.{Judged}
@@ -69,9 +70,9 @@ Holds (raw X d lo hi) = (raw_low series.sine X d ≡ pos lo) × (raw_high series
 Holds (lower M A X d t) = lower_rule (pos X) (grid (pos M) A) d ≡ flagged t
 Holds (upper M A X d t) = upper_rule (pos X) (grid (pos M) A) d ≡ flagged t
 Holds (ends g d k a b) = enclosure_rule g d ≡ record { code = number k; lower = a; upper = b }
-Holds (estimate x f c) = coded_estimate (double x) ≡ units_with (number done) (record { floor = f; ceiling = c })
+Holds (estimate x f c) = coded_estimate (double x) ≡ Ok (record { floor = f; ceiling = c })
 Holds (code g X k) = ((lower_rule X g 1).code ≡ number k) × ((upper_rule X g 1).code ≡ number k)
-Holds (estimate_code x k) = (coded_estimate (double x)).code ≡ number k
+Holds (estimate_code x k) = code_in (coded_estimate (double x)) ≡ number k
 Holds (judged g x N d v) = judge g x N d ≡ verdict v
 Holds (settled g x N v d) = settle_rule g (double x) N ≡ settled_as v d
 Holds (off g x least most) = distance_rule g (double x) ≡ record { code = number done; least = least; most = most }
@@ -104,7 +105,7 @@ starred =
     ∷ upper 42502279 one 268435456 1 true
     ∷ upper 42502280 one 268435456 1 false
     ∷ ends (grid (pos 0) one) 5 done (pos 0) (pos 0)
-    ∷ ends (grid (pos H_units) one) 1 no_upper_end (pos 0) (pos 0)
+    ∷ ends (grid (pos H_units) one) 1 (failed NoUpperEnd) (pos 0) (pos 0)
     -- the estimate 2^-1074
     ∷ estimate 1 0 1
     ∷ []
@@ -135,26 +136,26 @@ unfoldable pub others : List Row
 others =
     -- each limit, and one more
     code (grid (pos H_units) one) (pos T_units) done
-    ∷ code (grid (pos (H_units + 1)) one) (pos T_units) bad_m
+    ∷ code (grid (pos (H_units + 1)) one) (pos T_units) (failed BadM)
     ∷ code (grid (pos 0) one) (pos T_units) done
-    ∷ code (grid (pos 0) (one + 1)) (pos T_units) bad_a
+    ∷ code (grid (pos 0) (one + 1)) (pos T_units) (failed BadA)
     ∷ code (grid (pos 0) 0) (pos T_units) done
-    ∷ code (grid (pos 0) 0) (pos (T_units + 1)) bad_x
+    ∷ code (grid (pos 0) 0) (pos (T_units + 1)) (failed BadX)
     -- the same of a negative M, and the least number of 32 bits
     ∷ code (grid (minus H_units) one) (minus T_units) done
-    ∷ code (grid (minus (H_units + 1)) one) (minus T_units) bad_m
-    ∷ code (grid (minus 2147483648) one) (pos 0) bad_m
+    ∷ code (grid (minus (H_units + 1)) one) (minus T_units) (failed BadM)
+    ∷ code (grid (minus 2147483648) one) (pos 0) (failed BadM)
     ∷ code (grid (minus 1) 0) (minus T_units) done
-    ∷ code (grid (minus 1) 0) (minus (T_units + 1)) bad_x
+    ∷ code (grid (minus 1) 0) (minus (T_units + 1)) (failed BadX)
     -- an angle on the other side of 0 than M, and 0 itself
-    ∷ code (grid (minus 1) 0) (pos 1) bad_x
+    ∷ code (grid (minus 1) 0) (pos 1) (failed BadX)
     ∷ code (grid (minus 1) 0) (pos 0) done
-    ∷ code (grid (pos 0) 0) (minus 1) bad_x
+    ∷ code (grid (pos 0) 0) (minus 1) (failed BadX)
     -- the mirror exchanges the ends of M = 1, which are 756153 and 952744
     ∷ ends (grid (minus 1) one) 1 done (minus 952744) (minus 756153)
     -- T units in radians, and the next double above them
     ∷ estimate_code 0x400921fb74000000 done
-    ∷ estimate_code 0x400921fb74000001 bad_estimate
+    ∷ estimate_code 0x400921fb74000001 (failed BadEstimate)
     -- M = 0, e = 1: the estimates 2^-9, whose residual is small (R58), and 2^-8; and 0 with two tolerances, of which the
     -- wider loses the verdict (R47)
     ∷ judged (grid (pos 0) one) 0x3f60000000000000 1000 5 Undecided
@@ -198,29 +199,29 @@ others =
     ∷ judged (grid (pos 0) one) 0x8000000000000000 0 5 Confirmed
     ∷ judge_code (grid (minus 1) one) 0x8000000000000000 done
     ∷ judge_code (grid (minus 1) one) 0 done
-    ∷ judge_code (grid (pos 0) one) 0x8000000000000001 bad_estimate
+    ∷ judge_code (grid (pos 0) one) 0x8000000000000001 (failed BadEstimate)
     ∷ judge_code (grid (minus 1) one) 0x8000000000000001 done
-    ∷ judge_code (grid (minus 1) one) 1 bad_estimate
+    ∷ judge_code (grid (minus 1) one) 1 (failed BadEstimate)
     -- doubles: e = 1, and M of H units in size, the next double, pi, a NaN and an infinity
     ∷ code (bits 0x400921fb54000000 0x3ff0000000000000) (pos T_units) done
-    ∷ code (bits 0x400921fb54000001 0x3ff0000000000000) (pos T_units) bad_m
+    ∷ code (bits 0x400921fb54000001 0x3ff0000000000000) (pos T_units) (failed BadM)
     ∷ code (bits 0xc00921fb54000000 0x3ff0000000000000) (minus T_units) done
-    ∷ code (bits 0xc00921fb54000001 0x3ff0000000000000) (minus T_units) bad_m
-    ∷ code (bits 0x400921fb54442d18 0x3ff0000000000000) (pos T_units) bad_m
-    ∷ code (bits 0x7ff8000000000000 0x3ff0000000000000) (pos T_units) bad_m
-    ∷ code (bits 0xfff0000000000000 0x3ff0000000000000) (pos T_units) bad_m
+    ∷ code (bits 0xc00921fb54000001 0x3ff0000000000000) (minus T_units) (failed BadM)
+    ∷ code (bits 0x400921fb54442d18 0x3ff0000000000000) (pos T_units) (failed BadM)
+    ∷ code (bits 0x7ff8000000000000 0x3ff0000000000000) (pos T_units) (failed BadM)
+    ∷ code (bits 0xfff0000000000000 0x3ff0000000000000) (pos T_units) (failed BadM)
     -- M = 0, and e the next double above 1, the greatest below 0, minus zero, a NaN and an infinity
-    ∷ code (bits 0 0x3ff0000000000001) (pos T_units) bad_a
-    ∷ code (bits 0 0x8000000000000001) (pos T_units) bad_a
+    ∷ code (bits 0 0x3ff0000000000001) (pos T_units) (failed BadA)
+    ∷ code (bits 0 0x8000000000000001) (pos T_units) (failed BadA)
     ∷ code (bits 0 0x8000000000000000) (pos T_units) done
-    ∷ code (bits 0 0x7ff8000000000000) (pos T_units) bad_a
-    ∷ code (bits 0 0x7ff0000000000000) (pos T_units) bad_a
+    ∷ code (bits 0 0x7ff8000000000000) (pos T_units) (failed BadA)
+    ∷ code (bits 0 0x7ff0000000000000) (pos T_units) (failed BadA)
     -- the sign of M is the double's own: -1e-300, and minus zero
-    ∷ code (bits 0x81a56e1fc2f8f359 0) (pos 1) bad_x
+    ∷ code (bits 0x81a56e1fc2f8f359 0) (pos 1) (failed BadX)
     ∷ code (bits 0x81a56e1fc2f8f359 0) (minus 1) done
     ∷ code (bits 0x8000000000000000 0) (pos 1) done
-    ∷ code (bits 0x8000000000000000 0) (minus 1) bad_x
-    ∷ judge_code (bits 0x81a56e1fc2f8f359 0) 1 bad_estimate
+    ∷ code (bits 0x8000000000000000 0) (minus 1) (failed BadX)
+    ∷ judge_code (bits 0x81a56e1fc2f8f359 0) 1 (failed BadEstimate)
     -- M = half a unit, e = 1: the cell reaches from M = 0 to M = 1, and so from the lower end of 0 to the upper end of 1
     ∷ ends (bits 0x3e20000000000000 0x3ff0000000000000) 1 done (pos 0) (pos 952744)
     ∷ ends (bits 0xbe20000000000000 0x3ff0000000000000) 1 done (minus 952744) (pos 0)
@@ -244,10 +245,10 @@ others =
     -- M = half a unit, e = 1 and the estimate near its root
     ∷ off (bits 0x3e20000000000000 0x3ff0000000000000) 0x3f62515fd0117e41 0 600240
     -- a NaN beside a bad M and a bad A; estimates that oppose M
-    ∷ off_code (grid (pos (H_units + 1)) (one + 1)) 0x7ff8000000000000 bad_m
-    ∷ off_code (grid (pos 0) (one + 1)) 0x7ff8000000000000 bad_a
-    ∷ off_code (grid (pos 0) one) 0x8000000000000001 bad_estimate
-    ∷ off_code (grid (minus 1) one) 1 bad_estimate
+    ∷ off_code (grid (pos (H_units + 1)) (one + 1)) 0x7ff8000000000000 (failed BadM)
+    ∷ off_code (grid (pos 0) (one + 1)) 0x7ff8000000000000 (failed BadA)
+    ∷ off_code (grid (pos 0) one) 0x8000000000000001 (failed BadEstimate)
+    ∷ off_code (grid (minus 1) one) 1 (failed BadEstimate)
     -- the bytes as they stand in the buffer
     ∷ batch (claim1 ++ claim2) (0x00 ∷ 0x00 ∷ []) 2 (0x10 ∷ 0x12 ∷ [])
     ∷ batch (claim3 ++ claim4) (0x00 ∷ 0x00 ∷ []) 2 (0x10 ∷ 0x01 ∷ [])

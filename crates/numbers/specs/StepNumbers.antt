@@ -1,7 +1,8 @@
 -- The numbers to hold against, R57, that cosine and the two steps answer.
 use Rattle.std.specs.Prelude.{◌≡◌, List, [], ◌∷◌, ℕ, ◌+◌, ℤ, pos}
 use Rattle.grid.specs.Grid.{one, H_units, T_units}
-use Rattle.grid.specs.Codes.{Code, number, done, bad_m, bad_a, bad_depth, bad_estimate, bad_n, bad_x, bad_method}
+use Rattle.grid.specs.Codes.{Code, number, done, failed}
+use Rattle.grid.specs.declared.codes.Refusal.TheVariants.{BadM, BadA, BadDepth, BadEstimate, BadN, BadX, BadMethod}
 use Rattle.series.specs.Entry.{no_bounds}
 use Rattle.cosine.specs.Cosine.{cosine_rule}
 use Rattle.step.specs.Entry.{unstepped, step_rule, unjudged_step, judged_rule}
@@ -43,9 +44,9 @@ cosine_rows =
     ∷ cosine 268435456 5 (pos 145036293) (pos 145036298)
     ∷ cosine T_units 1 (minus 1056240623) (pos 33261948)
     ∷ cosine T_units 5 (minus 268435463) (minus 268435449)
-    ∷ cosine_code (T_units + 1) 5 bad_x
-    ∷ cosine_code (T_units + 1) 6 bad_depth
-    ∷ cosine_code 0 0 bad_depth
+    ∷ cosine_code (T_units + 1) 5 (failed BadX)
+    ∷ cosine_code (T_units + 1) 6 (failed BadDepth)
+    ∷ cosine_code 0 0 (failed BadDepth)
     ∷ []
 
 -- 1, 2^-9, 2^-20, minus zero and a NaN are 3ff0.., 3f60.., 3eb0.., 8000.. and 7ff8..
@@ -75,11 +76,11 @@ step_rows =
     ∷ step (pos 0) one 0 2 3 0
     ∷ step (pos H_units) one 0x3eb0000000000000 1 3 0
     ∷ step (pos 0) 134217728 0x3ff0000000000000 2 3 0
-    ∷ step_code (pos (H_units + 1)) (one + 1) 0x7ff8000000000000 3 bad_m
-    ∷ step_code (pos 0) (one + 1) 0x7ff8000000000000 3 bad_a
-    ∷ step_code (pos 0) one 0x7ff8000000000000 3 bad_estimate
-    ∷ step_code (pos 0) one 0 3 bad_method
-    ∷ step_code (pos 0) one 0 0 bad_method
+    ∷ step_code (pos (H_units + 1)) (one + 1) 0x7ff8000000000000 3 (failed BadM)
+    ∷ step_code (pos 0) (one + 1) 0x7ff8000000000000 3 (failed BadA)
+    ∷ step_code (pos 0) one 0x7ff8000000000000 3 (failed BadEstimate)
+    ∷ step_code (pos 0) one 0 3 (failed BadMethod)
+    ∷ step_code (pos 0) one 0 0 (failed BadMethod)
     ∷ []
 
 unfoldable pub judged_rows : List Row
@@ -91,12 +92,12 @@ judged_rows =
     ∷ judged (pos 1) one 0x3f60000000000000 1 1000 5 1 0x3f60000000000000 17
     ∷ judged (pos 0) one 0x3f60000000000000 1 0 5 1 0 16
     ∷ judged (pos 0) one 0 2 0 5 3 0 0
-    ∷ judged_code (pos (H_units + 1)) (one + 1) 0x7ff8000000000000 3 65536 6 bad_m
-    ∷ judged_code (pos 0) (one + 1) 0x7ff8000000000000 3 65536 6 bad_a
-    ∷ judged_code (pos 0) one 0x7ff8000000000000 3 65536 6 bad_depth
-    ∷ judged_code (pos 0) one 0x7ff8000000000000 3 65536 5 bad_estimate
-    ∷ judged_code (pos 0) one 0 3 65536 5 bad_n
-    ∷ judged_code (pos 0) one 0 3 65535 5 bad_method
+    ∷ judged_code (pos (H_units + 1)) (one + 1) 0x7ff8000000000000 3 65536 6 (failed BadM)
+    ∷ judged_code (pos 0) (one + 1) 0x7ff8000000000000 3 65536 6 (failed BadA)
+    ∷ judged_code (pos 0) one 0x7ff8000000000000 3 65536 6 (failed BadDepth)
+    ∷ judged_code (pos 0) one 0x7ff8000000000000 3 65536 5 (failed BadEstimate)
+    ∷ judged_code (pos 0) one 0 3 65536 5 (failed BadN)
+    ∷ judged_code (pos 0) one 0 3 65535 5 (failed BadMethod)
     ∷ []
 
 pub record StepNumbers : Type 0 where

@@ -4,11 +4,15 @@ use Rattle.grid.specs.Grid.{one, H_units}
 use Rattle.units.specs.declared.Units.{Units}
 use Rattle.orbit.specs.Mirror.{mirror}
 use Rattle.orbit.specs.declared.Span.{Span}
-use Rattle.orbit.specs.declared.Cell.{Cell}
 
 -- R1: a number of the grid
 abbrev pub exactly : ℕ → Span
 exactly n = record { down = n; up = n }
+
+-- R1: what is known of M and of A
+pub record Cell : Type 0 where
+  pub m : Span
+  pub a : Span
 
 -- R1: M and A of the grid
 abbrev pub grid_cell : ℕ → ℕ → Cell

@@ -1,18 +1,18 @@
 -- What a caller gives, R1, by the ways to pose a problem: its checks, whether it is mirrored, and its cell; and the problem at a
 -- depth, R4.
-use Rattle.std.specs.Prelude.{ℕ, Bool, false, List, [], ◌∷◌, ◌++◌, ℤ, pos, nat_abs, Float}
+use Rattle.std.specs.Prelude.{ℕ, Bool, List, [], ◌∷◌, ◌++◌, ℤ, pos, nat_abs, Float, Result}
 use Rattle.std.specs.Float.Ieee.Positive.{den}
 use Rattle.whole.specs.Sign.{negative}
 use Rattle.grid.specs.Grid.{one, H_units}
-use Rattle.grid.specs.Codes.{Check, number, done, bad_m, bad_a, checked, m_check, a_check, depth_check}
+use Rattle.grid.specs.Codes.{Check, allowed, m_check, a_check, depth_check}
 use Rattle.grid.specs.Limits.{DepthIn}
+use Rattle.grid.specs.declared.codes.Refusal.{Refusal}
+use Rattle.grid.specs.declared.codes.Refusal.TheVariants.{BadM, BadA}
 use Rattle.units.specs.Units.{mirror_double, is_below_zero, product, floor_and_ceiling, off_range}
 use Rattle.orbit.specs.Mirror.{mirror}
-use Rattle.orbit.specs.Cell.{Exact, InCell, grid_cell, span_of, CellIn}
-use Rattle.orbit.specs.declared.Cell.{Cell}
-use Rattle.orbit.specs.declared.CodedCell.{CodedCell}
-use Rattle.orbit.specs.declared.Problem.{Problem}
-use Rattle.orbit.specs.declared.CodedProblem.{CodedProblem}
+use Rattle.orbit.specs.Cell.{Cell, Exact, InCell, grid_cell, span_of, CellIn}
+use Rattle.orbit.specs.declared.pose.Problem.{Problem}
+use Rattle.orbit.specs.declared.pose.Posed.{Posed}
 
 -- R1: M and A in units of the grid; R60: M in radians and e as doubles
 pub data Given : Type 0 where
@@ -34,7 +34,7 @@ is_bad_a (doubles m e) = off_range one e
 
 -- R4, R5: the checks of M and A, codes 1 and 2: M is no angle, and its code is not 10
 abbrev pub checks_of : Given → List Check
-checks_of g = record { fails = is_bad_m g; code = bad_m } ∷ record { fails = is_bad_a g; code = bad_a } ∷ []
+checks_of g = record { fails = is_bad_m g; code = BadM } ∷ record { fails = is_bad_a g; code = BadA } ∷ []
 
 -- R59: whether it is mirrored, as a negative M is
 abbrev pub mirrored_of : Given → Bool
@@ -55,17 +55,9 @@ exact_of (doubles m e) = record { p = mirror (is_below_zero m) (pos (product m))
 abbrev pub Possible : Given → Exact → Type 0
 Possible g o = InCell (cell_of g) (mirrored_of g) o
 
--- R4: a code, a mark and a cell
-abbrev pub cell_with : ℕ → Bool → Cell → CodedCell
-cell_with code mirrored c = record { code = code; mirrored = mirrored; cell = c }
-
--- R7: nothing but a code
-abbrev pub no_cell : ℕ → CodedCell
-no_cell code = cell_with code false (grid_cell 0 0)
-
--- R4: the first code that applies, or the cell
-abbrev pub coded_cell : Given → CodedCell
-coded_cell g = checked (checks_of g) no_cell (cell_with (number done) (mirrored_of g) (cell_of g))
+-- R4: the first code that applies, or the cell, and whether it is mirrored
+abbrev pub coded_cell : Given → Result (Posed Cell) Refusal
+coded_cell g = allowed (checks_of g) (record { mirrored = mirrored_of g; of = cell_of g })
 
 -- R4: codes 1, 2 and 3 in that order
 abbrev pub problem_checks : Given → ℕ → List Check
@@ -73,22 +65,13 @@ problem_checks g d = checks_of g ++ depth_check d ∷ []
 
 -- R4: a problem at a depth
 abbrev pub problem_at : Cell → ℕ → Problem
-problem_at c d = record { cell = c; depth = record { pairs = d } }
+problem_at c d = record { cell = c; depth = d }
 
--- R4: a code, a mark and a problem
-abbrev pub problem_with : ℕ → Bool → Problem → CodedProblem
-problem_with code mirrored p = record { code = code; mirrored = mirrored; problem = p }
+-- R4: the first code that applies, or the problem, and whether it is mirrored
+abbrev pub coded_problem : Given → ℕ → Result (Posed Problem) Refusal
+coded_problem g d = allowed (problem_checks g d) (record { mirrored = mirrored_of g; of = problem_at (cell_of g) d })
 
--- R7: nothing but a code
-abbrev pub no_problem : ℕ → CodedProblem
-no_problem code = problem_with code false (problem_at (grid_cell 0 0) 0)
-
--- R4: the first code that applies, or the problem
-abbrev pub coded_problem : Given → ℕ → CodedProblem
-coded_problem g d =
-    checked (problem_checks g d) no_problem (problem_with (number done) (mirrored_of g) (problem_at (cell_of g) d))
-
--- R3: the limits of a problem, which the checked constructor sees to; no entry's contract cites this
+-- R3: the limits of a problem, which its parts have; no entry's contract cites this
 pub record ProblemIn (p : Problem) : Type 0 where
   pub cell : CellIn p.cell
   pub depth : DepthIn p.depth

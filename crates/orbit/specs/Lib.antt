@@ -1,4 +1,3 @@
 pub mod Mirror
 pub mod Cell
 pub mod Given
-pub mod Posed

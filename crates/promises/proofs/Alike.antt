@@ -21,7 +21,7 @@ use Rattle.units.specs.declared.Units.{Units}
 use Rattle.units.proofs.Scaled.{over_power}
 use Rattle.orbit.specs.Cell.{span_of}
 use Rattle.orbit.specs.Given.{Given, grid, doubles, size_of, is_bad_m, is_bad_a, checks_of, mirrored_of, cell_of}
-use Rattle.orbit.specs.declared.Cell.{Cell}
+use Rattle.orbit.specs.Cell.{Cell}
 use Rattle.orbit.proofs.Possible.{own_possible, own_value}
 use Rattle.orbit.proofs.OnGrid.{whole_units}
 use Rattle.enclosure.specs.Enclosure.{refusal, enclosed, enclosure_checks}

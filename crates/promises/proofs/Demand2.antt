@@ -13,7 +13,8 @@ use lib.Signed.{◌≤ℤ◌}
 use Rattle.whole.proofs.Bools.{both_parts}
 use Rattle.whole.proofs.CodeRoom.{size_sign}
 use Rattle.grid.specs.Grid.{H_units, T_units, depths}
-use Rattle.grid.specs.Codes.{Passed, bad_x, depth_check}
+use Rattle.grid.specs.Codes.{Passed, depth_check}
+use Rattle.grid.specs.declared.codes.Refusal.TheVariants.{BadX}
 use Rattle.grid.proofs.FirstCode.{split, join}
 use Rattle.grid.proofs.Fits.{limit_fits, depth_fits}
 use Rattle.series.specs.Terms.{Series}
@@ -60,10 +61,10 @@ use Rattle.promises.proofs.Flybys.{sinh_true}
 module _ (s : Series) (x d : ℕ) (e : (bounds_rule s x d).code ≡ 0) where
   passed : Passed (bounds_checks x d)
   unfolding bounds_rule
-  passed = (bounded s x d).demand.passed.0 e
+  passed = (bounded s x d).passed.0 e
 
   angle_in : x ≤ T_units
-  angle_in = limit_fits x T_units bad_x passed.1.0
+  angle_in = limit_fits x T_units BadX passed.1.0
 
   few_pairs : d ≤ depths
   few_pairs = (depth_fits d passed.0).few

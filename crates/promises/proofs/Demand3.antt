@@ -16,7 +16,7 @@ use Rattle.grid.proofs.FirstCode.{goes}
 use Rattle.orbit.specs.Mirror.{mirror, mirror_end}
 use Rattle.orbit.specs.Cell.{CellIn}
 use Rattle.orbit.specs.Given.{Given, grid, mirrored_of, cell_of}
-use Rattle.orbit.specs.declared.Cell.{Cell}
+use Rattle.orbit.specs.Cell.{Cell}
 use Rattle.orbit.proofs.Possible.{pos_le}
 use Rattle.ends.specs.Ends.{end_at}
 use Rattle.ends.specs.Entry.{flagged, lower_rule, upper_rule}

@@ -15,19 +15,19 @@ use Rattle.whole.proofs.Parts.{plus, minus, own, shift, is_pos, is_neg, is_minus
 use Rattle.whole.proofs.Order.{le_parts, lt_parts, one_number, greater_is}
 use Rattle.grid.specs.Grid.{T_units, depths}
 use Rattle.grid.specs.Codes.{Passed, depth_check}
-use Rattle.grid.proofs.FirstCode.{join}
+use Rattle.grid.proofs.FirstCode.{goes, join}
 use Rattle.grid.proofs.Outcomes.{of_checked}
 use Rattle.units.specs.Units.{product}
 use Rattle.units.specs.Exact.{Rounded}
 use Rattle.units.specs.declared.Units.{Units}
 use Rattle.orbit.specs.Mirror.{mirror}
 use Rattle.orbit.specs.Given.{Given, mirrored_of, cell_of, checks_of}
-use Rattle.orbit.specs.declared.Cell.{Cell}
+use Rattle.orbit.specs.Cell.{Cell}
 use Rattle.ends.specs.Ends.{lower_end, upper_end}
 use Rattle.ends.proofs.Apart.{apart}
 use Rattle.enclosure.specs.Enclosure.{found_lower, found_upper, found_ends, mirror_ends}
 use Rattle.enclosure.specs.declared.Enclosure.{Enclosure}
-use Rattle.enclosure.specs.declared.Found.{Found}
+use Rattle.enclosure.specs.Halving.{Found}
 use Rattle.enclosure.proofs.Encloses.{Encloses, always, code_zero, encloses}
 use Rattle.judge.specs.Verdict.{low_end, high_end}
 use Rattle.judge.specs.Judge.{Claim, claim_of, case_at, verdict, judge_rule}
@@ -120,7 +120,7 @@ module _ (g : Given) (x : Float) (checks : Passed (distance_checks g x)) where
   -- a distance is given
   answer : distance_rule g x ≡ off_by found (units_of g x)
   unfolding distance_rule
-  answer = ((distances g x).says (distance_rule g x) refl).made ((distances g x).demand.passed.1 checks)
+  answer = goes (distance_checks g x) checks no_distance (off_by found (units_of g x))
 
   enclosed : (enclosure_of g).code ≡ 0
   enclosed = always g (join (checks_of g) (depth_check depths ∷ []) (checks.0, (checks.1.0, tt)) (refl, tt))
@@ -220,7 +220,7 @@ pub distance : Distance
 unfolding distance_rule
 distance =
     record {
-      off = λ g x z. off_true g x ((distances g x).demand.passed.0 z);
+      off = λ g x z. off_true g x ((distances g x).passed.0 z);
       in_order = in_order;
       confirmed = confirmed;
       refuted = refuted;

@@ -18,7 +18,7 @@ use Rattle.grid.specs.Codes.{Passed, n_check}
 use Rattle.grid.proofs.FirstCode.{split}
 use Rattle.orbit.specs.Cell.{grid_cell}
 use Rattle.orbit.specs.Given.{grid, problem_checks}
-use Rattle.orbit.specs.declared.Cell.{Cell}
+use Rattle.orbit.specs.Cell.{Cell}
 use Rattle.enclosure.specs.Enclosure.{found_lower, found_upper, mirror_ends}
 use Rattle.enclosure.specs.declared.Enclosure.{Enclosure}
 use Rattle.enclosure.proofs.Encloses.{Encloses, always}
@@ -72,7 +72,7 @@ module _ (m : ℤ) (a : ℕ) (x : Float) (n : ℕ) (z : (judge_rule (claim_for m
 
   checks : Passed (claim_checks (claim_for m a x n))
   unfolding judge_rule
-  checks = (claims (claim_for m a x n)).demand.passed.0 z
+  checks = (claims (claim_for m a x n)).passed.0 z
 
   pub limits : CaseIn (case_at (claim_for m a x n))
   limits = case_in (claim_for m a x n) checks

@@ -10,7 +10,6 @@ use Rattle.whole.specs.Round.{down, up}
 use Rattle.whole.proofs.Round.{down_le, le_down, le_up, up_le}
 use Rattle.whole.proofs.Parts.{by_test}
 use Rattle.grid.specs.Grid.{one, N_units}
-use Rattle.enclosure.proofs.Narrow.{narrow}
 use Rattle.promises.specs.Figures.{greatest_width, tolerable, least_n, Figures}
 use Rattle.promises.proofs.Widths.{width, width_most, half_most}
 use Rattle.promises.proofs.FarAndNear.{limits, enclosed, confirmed, refuted_below, refuted_above, rounded}

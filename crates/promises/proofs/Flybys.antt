@@ -2,7 +2,7 @@
 use mathlib.Core.Path.{◌≡◌, refl, sym, ap, subst, ◌∙◌}
 use mathlib.Core.Bool.{Bool, true, false, not}
 use mathlib.Core.Logic.{◌⊎◌, inl, inr, ⊎_elim, ◌↔◌}
-use Prim.Native.Nat.{ℕ, suc, ◌+◌, ◌-◌, ◌*◌, ◌≤◌, ◌<◌}
+use Prim.Native.Nat.{ℕ, suc, ◌+◌, ◌-◌, ◌≤◌, ◌<◌}
 use native.Mathlib.Omega.{arith}
 use native.Mathlib.Nat.{mul-le-mul, lt_of_not-le}
 use native.Mathlib.Decide.{dec_le}
@@ -15,7 +15,8 @@ use Rattle.whole.proofs.Bools.{fails}
 use Rattle.whole.proofs.Parts.{is_pos, is_mul_right}
 use Rattle.whole.proofs.Order.{le_parts}
 use Rattle.grid.specs.Grid.{one}
-use Rattle.grid.specs.Codes.{Passed, bad_a}
+use Rattle.grid.specs.Codes.{Passed}
+use Rattle.grid.specs.declared.codes.Refusal.TheVariants.{BadA}
 use Rattle.grid.specs.Flyby.{M_top, B_top, X_top, flyby_checks}
 use Rattle.grid.proofs.Fits.{span_passes}
 use Rattle.grid.proofs.FirstCode.{only_last}
@@ -137,7 +138,7 @@ one_side x m b h e =
 fifteen : (m b : ℕ) → (enclosure_rule m b).code ≡ 15 ↔ end_rule true X_top m b ≡ flagged false
 unfolding enclosure_rule
 fifteen m b =
-    let coded = (enclosures m b).demand.coded 15 (λ z. omega arith) in (
+    let coded = (enclosures m b).coded 15 (λ z. omega arith) in (
       λ e.
           let (p, q) = only_last 15 (flyby_checks m b) (top_check m b) tt (coded.0 e) in
           declines true X_top m b (record { flyby = flyby_in m b p; top = omega arith }) (T_not (end_at true m b X_top) (subst T (sym q) tt)),
@@ -147,7 +148,7 @@ fifteen m b =
           coded.1
           (inr (
             le-ltb M_top m i.mean,
-            inr (span_passes b one B_top bad_a i.least i.shape, inl (sym (ap not (fails (end_at true m b X_top) n)), refl)),
+            inr (span_passes b one B_top BadA i.least i.shape, inl (sym (ap not (fails (end_at true m b X_top) n)), refl)),
           )),
     )
 

@@ -6,9 +6,13 @@ use Prim.Native.Nat.{ℕ, ◌+◌, ◌^◌, ◌≤◌, ◌<◌}
 use native.Mathlib.Omega.{arith}
 use lib.IntN.{ℤ, nat_abs}
 use lib.Ieee.{binary64, of_bits}
+use Rattle.std.specs.Prelude.{Result, Ok, Err, IfOk}
 use Rattle.grid.specs.Grid.{T_units, depths}
-use Rattle.grid.specs.Codes.{Check, number, done, bad_depth, checked, depth_check, x_check, signed_x_check}
+use Rattle.grid.specs.Codes.{Check, number, done, checked, depth_check, x_check, signed_x_check}
+use Rattle.grid.specs.declared.codes.Refusal.TheVariants.{BadDepth}
+use Rattle.grid.specs.declared.codes.Refusal.{Refusal}
 use Rattle.grid.proofs.FirstCode.{split, join}
+use Rattle.grid.proofs.Refuses.{gives_value}
 use Rattle.grid.proofs.Fits.{depth_passes}
 use Rattle.series.proofs.Factorial.{den_is, num_is}
 use Rattle.series.proofs.Between.{greatest_le_least}
@@ -21,7 +25,7 @@ use Rattle.series.specs.declared.Bounds.{Bounds}
 use Rattle.series.proofs.Deeper.{greatest_rises, least_falls, Lo_rises, Hi_falls}
 use Rattle.series.proofs.Stays.{low_stays, high_stays, spent_angles}
 use Rattle.cosine.specs.Cosine.{cosine}
-use Rattle.cosine.proofs.CosineTerms.{cosine_divides, cosine_fall, T_fall}
+use Rattle.cosine.proofs.OfCosine.{cosine_divides, cosine_fall, T_fall}
 use Rattle.cosine.proofs.CosineLaws.{den_c_is, num_c_is}
 use Rattle.orbit.specs.Mirror.{mirror, mirror_end}
 use Rattle.orbit.specs.Given.{Given, checks_of, mirrored_of, cell_of}
@@ -35,7 +39,8 @@ use Rattle.enclosure.proofs.Encloses.{never_six}
 use Rattle.rotations.specs.Table.{table}
 use Rattle.rotations.proofs.Table.{entry_right, den_pos, G_right}
 use Rattle.proposal.proofs.Certificate.{certified, concluded-true}
-use Rattle.units.specs.Units.{off_range, units_with, coded_estimate}
+use Rattle.units.specs.Units.{off_range, floor_and_ceiling, estimate_check, coded_estimate}
+use Rattle.units.specs.declared.Units.{Units}
 use Rattle.units.proofs.Rounding.{made_exact, made_rounded}
 use Rattle.claim_file.proofs.Output as program
 use Rattle.judge.proofs.SettleAnswers as settle
@@ -52,7 +57,7 @@ use Rattle.promises.proofs.Ends.{accepted_says, accepts, accepts_at, declines_at
 -- the check of a depth within its limits is that of another
 same_check : (d e : ℕ) → 1 ≤ d → d ≤ depths → 1 ≤ e → e ≤ depths → depth_check d ≡ depth_check e
 same_check d e i j k m =
-    ap (λ (t : Bool). record { fails = t; code = bad_depth }) (depth_passes d i j ∙ sym (depth_passes e k m))
+    ap (λ (t : Bool). record { fails = t; code = BadDepth }) (depth_passes d i j ∙ sym (depth_passes e k m))
 
 spent_bounds : (s : Series) (X n d : ℕ) → Spent s X n → 1 ≤ n → n ≤ d → d ≤ depths → bounds_rule s X d ≡ bounds_rule s X n
 unfolding bounds_rule
@@ -153,15 +158,20 @@ proposals =
 
 -- ---- an estimate
 
-minus_zero : coded_estimate (of_bits binary64 0x8000000000000000) ≡ units_with 0 (record { floor = 0; ceiling = 0 })
+where_made : {P : Units → Type 0} (r : Result Units Refusal) → ((u : Units) → r ≡ Ok u → P u) → IfOk r P
+where_made (Ok u) f = f u refl
+where_made (Err e) f = tt
+
+minus_zero : coded_estimate (of_bits binary64 0x8000000000000000) ≡ Ok (record { floor = 0; ceiling = 0 })
 unfolding off_range of_bits
 minus_zero = refl
 
 estimates : Estimates
 estimates =
     record {
-      exact = λ x t e. made_exact x (coded_estimate x) refl e t;
-      rounded = λ x e. made_rounded x (coded_estimate x) refl e;
+      exact = λ x t e.
+          made_exact x (floor_and_ceiling x) (gives_value (floor_and_ceiling x) (estimate_check x ∷ []) tt e) t;
+      rounded = λ x. where_made (coded_estimate x) (λ u e. made_rounded x u e);
       minus_zero = minus_zero;
     }
 

@@ -1,16 +1,20 @@
 -- With code 0 an entry's answer is what its rule gives. Assumes nothing.
 use mathlib.Core.Path.{refl}
 use mathlib.Core.Bool.{true, false}
+use mathlib.Core.List.{[], ◌∷◌}
 use Prim.Native.Nat.{ℕ}
+use lib.IntN.{nat_abs}
 use lib.ListN.{length}
 use Rattle.grid.proofs.FirstCode.{goes}
-use Rattle.grid.proofs.Made.{angles, signed_angles, eccentricities, depths_made}
+use Rattle.grid.specs.Codes.{a_check, depth_check, x_check, signed_x_check, n_check, method_check}
+use Rattle.grid.specs.Flyby.{X_check, flyby_checks}
+use Rattle.grid.proofs.Refuses.{gives, gives_value}
 use Rattle.series.specs.Sine.{sine}
 use Rattle.series.specs.Entry.{bounds_rule}
 use Rattle.series.proofs.Answers.{bounded}
 use Rattle.cosine.specs.Cosine.{cosine}
-use Rattle.units.proofs.Made.{estimates}
-use Rattle.orbit.proofs.Posed.{cells, problems}
+use Rattle.units.specs.Units.{floor_and_ceiling, estimate_check}
+use Rattle.orbit.specs.Given.{checks_of, problem_checks}
 use Rattle.ends.proofs.Answered.{ends}
 use Rattle.enclosure.proofs.Encloses.{enclosures}
 use Rattle.proposal.specs.Propose.{proposal_rule}
@@ -27,7 +31,6 @@ use Rattle.step.proofs.Answered.{steps, judged_steps}
 use Rattle.sinh.specs.Entry.{sinh_rule}
 use Rattle.sinh.proofs.Answers.{sinhs}
 use Rattle.flyby.specs.Entry as flyby
-use Rattle.flyby.proofs.Posed.{flybys}
 use Rattle.flyby.proofs.Answered as flyby_answers
 use Rattle.flyby_enclosure.specs.Enclosure as flyby_enclosure
 use Rattle.flyby_enclosure.proofs.Answers as flyby_encloses
@@ -46,23 +49,23 @@ pub rules : Rules
 unfolding bounds_rule proposal_rule judge_rule settle_rule distance_rule step_rule judged_rule sinh_rule flyby.end_rule flyby_enclosure.enclosure_rule flyby_claims.judge_rule batch_rule answer_at
 rules =
     record {
-      sine = λ x d. ((bounded sine x d).says _ refl).made;
-      cosine = λ x d. ((bounded cosine x d).says _ refl).made;
-      lower_end = λ x g d. ((ends false x g d).says _ refl).made;
-      upper_end = λ x g d. ((ends true x g d).says _ refl).made;
-      enclose = λ g d. ((enclosures g d).says _ refl).made;
-      propose = λ g. ((proposals g).says _ refl).made;
-      judge = λ c. ((judge.claims c).says _ refl).made;
-      settle = λ g x n. ((settlings g x n).says _ refl).made;
-      distance = λ g x. ((distances g x).says _ refl).made;
-      step = λ m a x method. ((steps m a x method).says _ refl).made;
-      step_judged = λ m a x method n d. ((judged_steps m a x method n d).says _ refl).made;
-      flyby_sinh = λ x. ((sinhs x).says _ refl).made;
-      flyby_lower_end = λ x m b. ((flyby_answers.tests false x m b).says _ refl).made;
-      flyby_upper_end = λ x m b. ((flyby_answers.tests true x m b).says _ refl).made;
-      flyby_enclose = λ m b. ((flyby_encloses.enclosures m b).says _ refl).made;
-      flyby_judge = λ k. ((flyby_judged.claims k).says _ refl).made;
-      count = λ claims answers. ((batches twenty (length claims) (length answers)).says _ refl).made;
+      sine = λ x d. gives _ (bounded sine x d);
+      cosine = λ x d. gives _ (bounded cosine x d);
+      lower_end = λ x g d. gives _ (ends false x g d);
+      upper_end = λ x g d. gives _ (ends true x g d);
+      enclose = λ g d. gives _ (enclosures g d);
+      propose = λ g. gives _ (proposals g);
+      judge = λ c. gives _ (judge.claims c);
+      settle = λ g x n. gives _ (settlings g x n);
+      distance = λ g x. gives _ (distances g x);
+      step = λ m a x method. gives _ (steps m a x method);
+      step_judged = λ m a x method n d. gives _ (judged_steps m a x method n d);
+      flyby_sinh = λ x. gives _ (sinhs x);
+      flyby_lower_end = λ x m b. gives _ (flyby_answers.tests false x m b);
+      flyby_upper_end = λ x m b. gives _ (flyby_answers.tests true x m b);
+      flyby_enclose = λ m b. gives _ (flyby_encloses.enclosures m b);
+      flyby_judge = λ k. gives _ (flyby_judged.claims k);
+      count = λ claims answers. gives _ (batches twenty (length claims) (length answers));
       written = byte_answered twenty;
       byte = λ claims i e.
           goes (record_checks twenty claims i) ((demand_1.byte claims i).passed.0 e) (λ (k : ℕ). k)
@@ -70,12 +73,15 @@ rules =
       one_of_eight = one_of_eight twenty refl;
       beyond = byte_kept twenty;
       room = length_kept twenty;
-      angle = λ x. ((angles x).says _ refl).made;
-      signed_angle = λ x. ((signed_angles x).says _ refl).made;
-      eccentricity = λ a. ((eccentricities a).says _ refl).made;
-      depth = λ d. ((depths_made d).says _ refl).made;
-      cell = λ g. ((cells g).says _ refl).made;
-      problem = λ g d. ((problems g d).says _ refl).made;
-      posed_flyby = λ m b. ((flybys m b).says _ refl).made;
-      estimate = λ x. ((estimates x).says _ refl).made;
+      angle = λ x. gives_value x (x_check x ∷ []) tt;
+      signed_angle = λ x. gives_value (nat_abs x) (signed_x_check x ∷ []) tt;
+      flyby_angle = λ x. gives_value x (X_check x ∷ []) tt;
+      tolerance = λ n. gives_value n (n_check n ∷ []) tt;
+      method = λ n. gives_value _ (method_check n ∷ []) tt;
+      eccentricity = λ a. gives_value a (a_check a ∷ []) tt;
+      depth = λ d. gives_value d (depth_check d ∷ []) tt;
+      cell = λ g. gives_value _ (checks_of g) tt;
+      problem = λ g d. gives_value _ (problem_checks g d) tt;
+      posed_flyby = λ m b. gives_value _ (flyby_checks m b) tt;
+      estimate = λ x. gives_value (floor_and_ceiling x) (estimate_check x ∷ []) tt;
     }

@@ -14,7 +14,7 @@ use Rattle.grid.proofs.Outcomes.{of_checked}
 use Rattle.grid.proofs.Refuses.{through}
 use Rattle.series.proofs.CodeRange.{InBounds, Lo_within, greatest_in}
 use Rattle.cosine.specs.Cosine.{cosine}
-use Rattle.cosine.proofs.CosineTerms.{cosine_in_range}
+use Rattle.cosine.proofs.OfCosine.{cosine_in_range}
 use Rattle.units.specs.Units.{off_range}
 use Rattle.orbit.specs.Given.{grid}
 use Rattle.judge.specs.Verdict.{verdict_number}

@@ -13,7 +13,7 @@ use Rattle.whole.proofs.Order.{le_parts, lt_parts}
 use Rattle.grid.specs.Grid.{one, depths}
 use Rattle.orbit.specs.Cell.{grid_cell}
 use Rattle.orbit.specs.Given.{grid}
-use Rattle.orbit.specs.declared.Cell.{Cell}
+use Rattle.orbit.specs.Cell.{Cell}
 use Rattle.enclosure.specs.Enclosure.{found_lower, found_upper, mirror_ends}
 use Rattle.enclosure.specs.declared.Enclosure.{Enclosure}
 use Rattle.enclosure.proofs.Encloses.{Encloses, code_zero, encloses}

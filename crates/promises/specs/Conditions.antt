@@ -3,11 +3,12 @@ use Rattle.std.specs.Prelude.{◌≡◌, Bool, true, false, not, List, ◌⊎◌
 use Rattle.std.specs.Float.{nan, inf, fin}
 use Rattle.std.specs.Float.Ieee.Positive.{den}
 use Rattle.grid.specs.Grid.{one, H_units, T_units, depths, N_units}
-use Rattle.grid.specs.Codes.{Check, bad_m, bad_a, bad_estimate, limit_check, span_check, a_check, depth_check, x_check, signed_x_check, n_check, method_check}
+use Rattle.grid.specs.Codes.{Check, limit_check, span_check, a_check, depth_check, x_check, signed_x_check, n_check, method_check}
+use Rattle.grid.specs.declared.codes.Refusal.TheVariants.{BadM, BadA, BadEstimate}
 use Rattle.grid.specs.Flyby.{M_top, B_top, X_top, X_check}
 use Rattle.orbit.specs.Mirror.{mirror}
 use Rattle.orbit.specs.Given.{Given, grid, doubles, is_bad_m, is_bad_a}
-use Rattle.orbit.specs.declared.Cell.{Cell}
+use Rattle.orbit.specs.Cell.{Cell}
 use Rattle.ends.specs.Ends.{upper_end}
 use Rattle.enclosure.specs.Enclosure.{T_check}
 use Rattle.units.specs.Units.{mirror_double, product, range_check, estimate_check}
@@ -74,10 +75,10 @@ pub record Conditions : Type 0 where
   pub x : (x : ℕ) → Exactly (x_check x) (T_units < x)
   pub tested : (mirrored : Bool) (x : ℤ) → Exactly (signed_x_check (mirror mirrored x)) (Opposes mirrored x ⊎ (T_units < nat_abs x))
   -- codes 1, 2, 10, 4 and 15 of a flyby
-  pub flyby_m : (m : ℕ) → Exactly (limit_check m M_top bad_m) (M_top < m)
-  pub flyby_b : (b : ℕ) → Exactly (span_check b one B_top bad_a) ((b < one) ⊎ (B_top < b))
+  pub flyby_m : (m : ℕ) → Exactly (limit_check m M_top BadM) (M_top < m)
+  pub flyby_b : (b : ℕ) → Exactly (span_check b one B_top BadA) ((b < one) ⊎ (B_top < b))
   pub flyby_x : (x : ℕ) → Exactly (X_check x) (X_top < x)
-  pub flyby_estimate : (x : Float) → Exactly (range_check x X_top bad_estimate) (HasSign true x ⊎ Oversize X_top x)
+  pub flyby_estimate : (x : Float) → Exactly (range_check x X_top BadEstimate) (HasSign true x ⊎ Oversize X_top x)
   pub flyby_top : (m b : ℕ) → Exactly (top_check m b) (T (end_at true m b X_top) → ⊥)
   -- code 21
   pub method : (method : ℕ) → Exactly (method_check method) ((method ≡ 1 → ⊥) × (method ≡ 2 → ⊥))

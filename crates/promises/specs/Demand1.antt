@@ -1,21 +1,15 @@
 -- The first demand, R5 to R7, of every entry's rule and of every checked constructor. That an entry takes any input and
 -- ends (R54) is what its check proves, as its contract has no `requires`.
-use Rattle.std.specs.Prelude.{◌≡◌, Bool, cond, List, [], ◌∷◌, ℕ, T, eqb, ℤ, Float, length}
-use Rattle.grid.specs.Codes.{number, done, order, or, a_check, depth_check, x_check, signed_x_check}
-use Rattle.grid.specs.Flyby.{flyby_checks}
+use Rattle.std.specs.Prelude.{◌≡◌, Bool, cond, List, [], ◌∷◌, ◌++◌, ℕ, T, eqb, ℤ, Float, length}
+use Rattle.grid.specs.Codes.{Check, number, done, order, first_code, earlier, code_in, only_code, or, a_check, depth_check, x_check, signed_x_check, n_check, method_check}
+use Rattle.grid.specs.Flyby.{X_check, flyby_checks}
 use Rattle.grid.specs.Refuses.{Refuses, is_in_order, distinct, all}
-use Rattle.grid.specs.Make.{angle_with, coded_angle, coded_signed, eccentricity_with, coded_eccentricity, depth_with, coded_depth}
-use Rattle.grid.specs.declared.CodedAngle.{CodedAngle}
-use Rattle.grid.specs.declared.CodedEccentricity.{CodedEccentricity}
-use Rattle.grid.specs.declared.CodedDepth.{CodedDepth}
+use Rattle.grid.specs.Make.{coded_angle, coded_signed, coded_flyby_angle, coded_eccentricity, coded_depth}
 use Rattle.series.specs.Entry.{bounds_checks, no_bounds, sine_rule}
 use Rattle.series.specs.declared.Bounds.{Bounds}
 use Rattle.cosine.specs.Cosine.{cosine_rule}
-use Rattle.units.specs.Units.{estimate_check, zeros_with, coded_estimate}
-use Rattle.units.specs.declared.CodedUnits.{CodedUnits}
-use Rattle.orbit.specs.Given.{Given, checks_of, no_cell, coded_cell, problem_checks, no_problem, coded_problem}
-use Rattle.orbit.specs.declared.CodedCell.{CodedCell}
-use Rattle.orbit.specs.declared.CodedProblem.{CodedProblem}
+use Rattle.units.specs.Units.{estimate_check, coded_estimate}
+use Rattle.orbit.specs.Given.{Given, checks_of, coded_cell, problem_checks, coded_problem}
 use Rattle.ends.specs.Entry.{end_checks, end_refused, lower_rule, upper_rule}
 use Rattle.ends.specs.declared.End.{End}
 use Rattle.enclosure.specs.Enclosure.{enclosure_checks, refusal, enclosure_rule}
@@ -25,17 +19,18 @@ use Rattle.proposal.specs.declared.Proposal.{Proposal}
 use Rattle.judge.specs.Verdict.{verdict_number}
 use Rattle.judge.specs.Judge.{Claim, claim_of, claim_checks, unjudged, judge_rule}
 use Rattle.judge.specs.Settle.{settle_checks, unsettled, settle_rule}
+use Rattle.judge.specs.Limits.{coded_tolerance}
 use Rattle.judge.specs.declared.Judged.{Judged}
 use Rattle.judge.specs.declared.Settled.{Settled}
 use Rattle.judge.specs.declared.Verdict.TheVariants.{Confirmed, Refuted, Undecided}
 use Rattle.distance.specs.Distance.{distance_checks, no_distance, distance_rule}
 use Rattle.distance.specs.declared.Off.{Off}
 use Rattle.step.specs.Entry.{step_checks, unstepped, step_rule, judged_checks, unjudged_step, judged_rule}
+use Rattle.step.specs.Known.{coded_method}
 use Rattle.step.specs.declared.Stepped.{Stepped}
 use Rattle.step.specs.declared.JudgedStep.{JudgedStep}
 use Rattle.sinh.specs.Entry.{sinh_checks, sinh_rule}
-use Rattle.flyby.specs.Posed.{flyby_with, coded_flyby}
-use Rattle.flyby.specs.declared.CodedFlyby.{CodedFlyby}
+use Rattle.flyby.specs.Posed.{coded_flyby}
 use Rattle.flyby.specs.Entry as flyby
 use Rattle.flyby_enclosure.specs.Enclosure as flyby_enclosure
 use Rattle.flyby_judge.specs.Judge as flyby_claims
@@ -87,16 +82,19 @@ pub record Demand1 : Type 0 where
   -- R50: the byte of each record
   pub byte : (claims : List ℕ) (i : ℕ) → Refuses (record_checks twenty claims i) code_of_byte (λ k. k) (answer_at twenty claims i)
   -- R4: the checked constructors, and an estimate in units
-  pub angle : (x : ℕ) → Refuses (x_check x ∷ []) (λ (r : CodedAngle). r.code) (λ k. angle_with k 0) (coded_angle x)
-  pub signed_angle : (x : ℤ)
-      → Refuses (signed_x_check x ∷ []) (λ (r : CodedAngle). r.code) (λ k. angle_with k 0) (coded_signed x)
-  pub eccentricity : (a : ℕ)
-      → Refuses (a_check a ∷ []) (λ (r : CodedEccentricity). r.code) (λ k. eccentricity_with k 0) (coded_eccentricity a)
-  pub depth : (d : ℕ) → Refuses (depth_check d ∷ []) (λ (r : CodedDepth). r.code) (λ k. depth_with k 0) (coded_depth d)
-  pub cell : (g : Given) → Refuses (checks_of g) (λ (r : CodedCell). r.code) no_cell (coded_cell g)
-  pub problem : (g : Given) (d : ℕ) → Refuses (problem_checks g d) (λ (r : CodedProblem). r.code) no_problem (coded_problem g d)
-  pub posed_flyby : (m b : ℕ) → Refuses (flyby_checks m b) (λ (r : CodedFlyby). r.code) (λ k. flyby_with k 0 0) (coded_flyby m b)
-  pub estimate : (x : Float) → Refuses (estimate_check x ∷ []) (λ (r : CodedUnits). r.code) zeros_with (coded_estimate x)
+  pub angle : (x : ℕ) → Refuses (x_check x ∷ []) code_in only_code (coded_angle x)
+  pub signed_angle : (x : ℤ) → Refuses (signed_x_check x ∷ []) code_in only_code (coded_signed x)
+  pub flyby_angle : (x : ℕ) → Refuses (X_check x ∷ []) code_in only_code (coded_flyby_angle x)
+  pub tolerance : (n : ℕ) → Refuses (n_check n ∷ []) code_in only_code (coded_tolerance n)
+  pub method : (n : ℕ) → Refuses (method_check n ∷ []) code_in only_code (coded_method n)
+  pub eccentricity : (a : ℕ) → Refuses (a_check a ∷ []) code_in only_code (coded_eccentricity a)
+  pub depth : (d : ℕ) → Refuses (depth_check d ∷ []) code_in only_code (coded_depth d)
+  pub cell : (g : Given) → Refuses (checks_of g) code_in only_code (coded_cell g)
+  pub problem : (g : Given) (d : ℕ) → Refuses (problem_checks g d) code_in only_code (coded_problem g d)
+  pub posed_flyby : (m b : ℕ) → Refuses (flyby_checks m b) code_in only_code (coded_flyby m b)
+  pub estimate : (x : Float) → Refuses (estimate_check x ∷ []) code_in only_code (coded_estimate x)
+  -- R6: of checks one after the other the second code counts where the first is `done`
+  pub in_turn : (cs ds : List Check) → number (first_code (cs ++ ds)) ≡ earlier (number (first_code cs)) (number (first_code ds))
   -- R6: every list of checks is in the order
   pub flybys_in_order : (x m b n : ℕ) (f : Float)
       → T (all (is_in_order order)

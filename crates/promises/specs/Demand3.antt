@@ -5,7 +5,7 @@ use Rattle.grid.specs.Flyby.{X_top}
 use Rattle.grid.specs.Codes.{number, done}
 use Rattle.orbit.specs.Cell.{CellIn}
 use Rattle.orbit.specs.Given.{Given}
-use Rattle.orbit.specs.declared.Cell.{Cell}
+use Rattle.orbit.specs.Cell.{Cell}
 use Rattle.ends.specs.Entry.{flagged, lower_rule, upper_rule}
 use Rattle.enclosure.specs.Enclosure.{enclosure_rule}
 use Rattle.enclosure.specs.declared.Enclosure.{Enclosure}

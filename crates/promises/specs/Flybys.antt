@@ -1,8 +1,9 @@
 -- Flybys, R81 to R89, over what their entries answer: what the second demand says of them, and what holds of flybys alone.
-use Rattle.std.specs.Prelude.{◌≡◌, Bool, true, false, ◌⊎◌, ◌↔◌, ℕ, ◌+◌, ◌-◌, ◌*◌, ◌^◌, ◌≤◌, ◌<◌, pos, nat_abs, ◌*ℤ◌, Float, ◌≤ℤ◌}
+use Rattle.std.specs.Prelude.{◌≡◌, Bool, true, false, ◌⊎◌, ◌↔◌, ℕ, ◌+◌, ◌-◌, ◌*◌, ◌^◌, ◌≤◌, ◌<◌, pos, nat_abs, ◌*ℤ◌, ◌≤ℤ◌}
 use Rattle.std.specs.Float.Ieee.{neg}
 use Rattle.grid.specs.Grid.{one, N_units}
-use Rattle.grid.specs.Codes.{number, done, no_flyby_end, Passed}
+use Rattle.grid.specs.Codes.{number, done, failed, Passed}
+use Rattle.grid.specs.declared.codes.Refusal.TheVariants.{NoFlybyEnd}
 use Rattle.grid.specs.Flyby.{M_top, B_top, X_top}
 use Rattle.series.specs.Factorial.{factorial}
 use Rattle.series.specs.declared.Bounds.{Bounds}
@@ -87,7 +88,7 @@ pub record Flybys : Type 0 where
   -- R87: and at no other X are both ends accepted
   pub one_side : (x m b : ℕ) → 0 < x → end_rule true x m b ≡ flagged true → end_rule false x m b ≡ flagged false
   -- R88: code 15 is given exactly where the top is no upper end
-  pub fifteen : (m b : ℕ) → (enclosure_rule m b).code ≡ number no_flyby_end ↔ end_rule true X_top m b ≡ flagged false
+  pub fifteen : (m b : ℕ) → (enclosure_rule m b).code ≡ number (failed NoFlybyEnd) ↔ end_rule true X_top m b ≡ flagged false
   -- R88: an enclosure has every accepted end: the lower ones are those up to its lower end, the upper ones those from its upper end
   pub all_lower : (m b x : ℕ) → (enclosure_rule m b).code ≡ number done → end_rule false x m b ≡ flagged true
       → x ≤ nat_abs (enclosure_rule m b).lower

@@ -1,12 +1,13 @@
 -- What the rules promise further, beside the demands: of sums, ends, searches, tables, estimates, settled claims, figures,
 -- distances, cosine, steps, mirrors, doubles and the program.
-use Rattle.std.specs.Prelude.{◌≡◌, Bool, true, false, List, [], ◌↔◌, ℕ, suc, ◌+◌, ◌*◌, ◌/◌, ◌%◌, ◌^◌, ◌≤◌, ◌<◌, T, ℤ, pos, negsuc, nat_abs, ◌*ℤ◌, ◌≤ℤ◌, Float, length}
+use Rattle.std.specs.Prelude.{◌≡◌, Bool, true, false, List, [], ◌↔◌, ℕ, suc, ◌+◌, ◌*◌, ◌/◌, ◌%◌, ◌^◌, ◌≤◌, ◌<◌, T, ℤ, pos, negsuc, nat_abs, ◌*ℤ◌, ◌≤ℤ◌, Float, length, Ok, IfOk}
 use Rattle.std.specs.Float.{binary64}
 use Rattle.std.specs.Float.Ieee.{round, of_bits, fits, mul, neg}
 use Rattle.std.specs.Float.Ieee.Positive.{den}
 use Rattle.whole.specs.Sign.{negative}
 use Rattle.grid.specs.Grid.{one, H_units, T_units, depths}
-use Rattle.grid.specs.Codes.{Passed, number, done, no_upper_end}
+use Rattle.grid.specs.Codes.{Passed, number, done, failed, code_in}
+use Rattle.grid.specs.declared.codes.Refusal.TheVariants.{NoUpperEnd}
 use Rattle.series.specs.Terms.{Series}
 use Rattle.series.specs.Bounds.{greatest_low, least_high, Spent}
 use Rattle.series.specs.Exact as exact
@@ -16,7 +17,7 @@ use Rattle.series.specs.Entry.{sine_rule}
 use Rattle.orbit.specs.Cell.{orbit_at, grid_cell}
 use Rattle.orbit.specs.Mirror.{mirror, mirror_end}
 use Rattle.orbit.specs.Given.{Given, grid, doubles, mirrored_of, cell_of, exact_of, Possible, checks_of, problem_checks}
-use Rattle.orbit.specs.declared.Cell.{Cell}
+use Rattle.orbit.specs.Cell.{Cell}
 use Rattle.ends.specs.Ends.{below_at, above_at, below_by, above_by}
 use Rattle.ends.specs.Entry.{flagged, end_rule, lower_rule, upper_rule}
 use Rattle.ends.specs.Exact.{ExactAt}
@@ -27,7 +28,7 @@ use Rattle.rotations.specs.Table.{entries, table, entry, RoundedDown, G, Scaled}
 use Rattle.rotations.specs.declared.State.{State}
 use Rattle.proposal.specs.Certify.{low_at, high_at, certifies, certificate, widths, Smallest}
 use Rattle.proposal.specs.Propose.{concluded}
-use Rattle.units.specs.Units.{is_below_zero, product, units_with, coded_estimate}
+use Rattle.units.specs.Units.{is_below_zero, product, coded_estimate}
 use Rattle.units.specs.Exact.{radian, Value, InUnits, Rounded}
 use Rattle.judge.specs.Verdict.{verdict_number}
 use Rattle.judge.specs.Judge.{claim_of, verdict, judge_rule}
@@ -89,7 +90,7 @@ pub record Searches : Type 0 where
   -- R25: the last bracket of a search is closed, for any test and any top up to 2^30
   pub closed : (test : ℕ → Bool) (top : ℕ) → 0 < top → top ≤ 2 ^ 30 → (last_bracket test top).q ≡ (last_bracket test top).p + 1
   -- R28
-  pub never_6 : (g : Given) (d : ℕ) → 4 ≤ d → (enclosure_rule g d).code ≡ number no_upper_end → ⊥
+  pub never_6 : (g : Given) (d : ℕ) → 4 ≤ d → (enclosure_rule g d).code ≡ number (failed NoUpperEnd) → ⊥
 
 pub record Proposals : Type 0 where
   -- R33: 25 entries, each the floor of its fraction, and no fraction over 0
@@ -107,12 +108,11 @@ pub record Proposals : Type 0 where
 
 pub record Estimates : Type 0 where
   -- R41: binary64's product of an estimate in range with 2^28 is exact
-  pub exact : (x : Float) → T (fits binary64 x) → (coded_estimate x).code ≡ number done → Value (mul binary64 x radian) (product x) (den x)
+  pub exact : (x : Float) → T (fits binary64 x) → code_in (coded_estimate x) ≡ number done → Value (mul binary64 x radian) (product x) (den x)
   -- R41: f and c are its floor and its ceiling
-  pub rounded : (x : Float) → (coded_estimate x).code ≡ number done
-      → let u = (coded_estimate x).units in Rounded (product x) (den x) u.floor u.ceiling
+  pub rounded : (x : Float) → IfOk (coded_estimate x) (λ u. Rounded (product x) (den x) u.floor u.ceiling)
   -- R41: minus zero, by its bits
-  pub minus_zero : coded_estimate (of_bits binary64 0x8000000000000000) ≡ units_with (number done) (record { floor = 0; ceiling = 0 })
+  pub minus_zero : coded_estimate (of_bits binary64 0x8000000000000000) ≡ Ok (record { floor = 0; ceiling = 0 })
 
 pub record Settles : Type 0 where
   -- R62: code and verdict are the judge's at depth 5

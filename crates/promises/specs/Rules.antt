@@ -1,26 +1,28 @@
 -- With code 0 an entry's answer is the one its rule gives, number for number, and so is each byte of a batch.
-use Rattle.std.specs.Prelude.{◌≡◌, true, false, List, ℕ, ◌/◌, ◌≤◌, ◌<◌, ℤ, pos, nat_abs, Float, length, get_or}
+use Rattle.std.specs.Prelude.{◌≡◌, true, false, List, ℕ, ◌/◌, ◌≤◌, ◌<◌, ℤ, pos, nat_abs, Float, length, get_or, Ok}
 use Rattle.grid.specs.Grid.{depths}
-use Rattle.grid.specs.Codes.{number, done}
-use Rattle.grid.specs.Make.{angle_with, coded_angle, coded_signed, eccentricity_with, coded_eccentricity, depth_with, coded_depth}
+use Rattle.grid.specs.Codes.{number, done, code_in}
+use Rattle.grid.specs.Make.{coded_angle, coded_signed, coded_flyby_angle, coded_eccentricity, coded_depth}
 use Rattle.series.specs.Sine.{Lo, Hi}
 use Rattle.series.specs.Entry.{sine_rule}
 use Rattle.cosine.specs.Cosine.{CosLo, CosHi, cosine_rule}
-use Rattle.units.specs.Units.{floor_and_ceiling, units_with, coded_estimate}
-use Rattle.orbit.specs.Given.{Given, mirrored_of, cell_of, cell_with, coded_cell, problem_at, problem_with, coded_problem}
+use Rattle.units.specs.Units.{floor_and_ceiling, coded_estimate}
+use Rattle.orbit.specs.Given.{Given, mirrored_of, cell_of, coded_cell, problem_at, coded_problem}
 use Rattle.ends.specs.Entry.{flagged, end_of, lower_rule, upper_rule}
 use Rattle.enclosure.specs.Enclosure.{found_ends, enclosed, enclosure_rule}
 use Rattle.proposal.specs.Propose.{proposed, mirror_proposal, proposal_rule}
 use Rattle.judge.specs.Verdict.{verdict_number}
 use Rattle.judge.specs.Judge.{Claim, claim_of, case_at, case_verdict, verdict, judge_rule}
 use Rattle.judge.specs.Settle.{settled_by, settle_rule}
+use Rattle.judge.specs.Limits.{coded_tolerance}
 use Rattle.distance.specs.Distance.{off_by, units_of, distance_rule}
 use Rattle.step.specs.Entry.{step_from, stepped_as, step_rule, judged_as, judged_rule}
+use Rattle.step.specs.Known.{method_of, coded_method}
 use Rattle.sinh.specs.Sinh.{low, high}
 use Rattle.sinh.specs.Entry.{sinh_rule}
 use Rattle.flyby.specs.Ends as flyby_ends
 use Rattle.flyby.specs.Entry as flyby
-use Rattle.flyby.specs.Posed.{flyby_with, coded_flyby}
+use Rattle.flyby.specs.Posed.{coded_flyby}
 use Rattle.flyby_enclosure.specs.Enclosure as flyby_enclosure
 use Rattle.flyby_judge.specs.Judge as flyby_claims
 use Rattle.claims.specs.Form.{twenty}
@@ -85,12 +87,15 @@ pub record Rules : Type 0 where
   -- R50: and there are eight bytes that can answer, of claims that are bytes
   pub one_of_eight : (claims : List ℕ) → ((k : ℕ) → get_or claims k 0 < 256) → (i : ℕ) → AnswerByte (answer_at twenty claims i)
   -- R4: what the checked constructors make; R41: f and c
-  pub angle : (x : ℕ) → Gives (λ r. r.code) (coded_angle x) (angle_with (number done) x)
-  pub signed_angle : (x : ℤ) → Gives (λ r. r.code) (coded_signed x) (angle_with (number done) (nat_abs x))
-  pub eccentricity : (a : ℕ) → Gives (λ r. r.code) (coded_eccentricity a) (eccentricity_with (number done) a)
-  pub depth : (d : ℕ) → Gives (λ r. r.code) (coded_depth d) (depth_with (number done) d)
-  pub cell : (g : Given) → Gives (λ r. r.code) (coded_cell g) (cell_with (number done) (mirrored_of g) (cell_of g))
+  pub angle : (x : ℕ) → Gives code_in (coded_angle x) (Ok x)
+  pub signed_angle : (x : ℤ) → Gives code_in (coded_signed x) (Ok (nat_abs x))
+  pub flyby_angle : (x : ℕ) → Gives code_in (coded_flyby_angle x) (Ok x)
+  pub tolerance : (n : ℕ) → Gives code_in (coded_tolerance n) (Ok n)
+  pub method : (n : ℕ) → Gives code_in (coded_method n) (Ok (method_of n))
+  pub eccentricity : (a : ℕ) → Gives code_in (coded_eccentricity a) (Ok a)
+  pub depth : (d : ℕ) → Gives code_in (coded_depth d) (Ok d)
+  pub cell : (g : Given) → Gives code_in (coded_cell g) (Ok (record { mirrored = mirrored_of g; of = cell_of g }))
   pub problem : (g : Given) (d : ℕ)
-      → Gives (λ r. r.code) (coded_problem g d) (problem_with (number done) (mirrored_of g) (problem_at (cell_of g) d))
-  pub posed_flyby : (m b : ℕ) → Gives (λ r. r.code) (coded_flyby m b) (flyby_with (number done) m b)
-  pub estimate : (x : Float) → Gives (λ r. r.code) (coded_estimate x) (units_with (number done) (floor_and_ceiling x))
+      → Gives code_in (coded_problem g d) (Ok (record { mirrored = mirrored_of g; of = problem_at (cell_of g) d }))
+  pub posed_flyby : (m b : ℕ) → Gives code_in (coded_flyby m b) (Ok (record { mean = m; shape = b }))
+  pub estimate : (x : Float) → Gives code_in (coded_estimate x) (Ok (floor_and_ceiling x))

@@ -2,7 +2,8 @@
 use Rattle.std.specs.Prelude.{◌≡◌, true, ◌⊎◌, ℕ, suc, ◌^◌, ◌≤◌, ◌<◌, ℤ, pos, negsuc, nat_abs, Float}
 use Rattle.std.specs.Float.Ieee.{neg, eq}
 use Rattle.grid.specs.Grid.{T_units, depths}
-use Rattle.grid.specs.Codes.{number, done, bad_estimate}
+use Rattle.grid.specs.Codes.{number, done, failed}
+use Rattle.grid.specs.declared.codes.Refusal.TheVariants.{BadEstimate}
 use Rattle.series.specs.Sine.{Lo}
 use Rattle.cosine.specs.Cosine.{CosLo}
 use Rattle.units.specs.Exact.{InUnits}
@@ -23,8 +24,8 @@ pub record StepTrue (m : ℤ) (a method : ℕ) (r : Stepped) : Type 0 where
   -- a zero is plus zero
   pub zero : eq r.estimate plus_zero ≡ true → r.estimate ≡ plus_zero
   -- neither the judge nor a next step gives the new estimate code 4
-  pub judged : (n d : ℕ) → (judge_rule (claim_of (grid m a) r.estimate n d)).code ≡ number bad_estimate → ⊥
-  pub stepped : (next : ℕ) → (step_rule m a r.estimate next).code ≡ number bad_estimate → ⊥
+  pub judged : (n d : ℕ) → (judge_rule (claim_of (grid m a) r.estimate n d)).code ≡ number (failed BadEstimate) → ⊥
+  pub stepped : (next : ℕ) → (step_rule m a r.estimate next).code ≡ number (failed BadEstimate) → ⊥
 
 -- R79: of what `step_judged` answers with code 0
 pub record JudgedTrue (m : ℤ) (a : ℕ) (x : Float) (method n d : ℕ) (r : JudgedStep) : Type 0 where

@@ -1,14 +1,12 @@
 -- Any two results that a contract allows for one input are equal, R55. What a contract allows is written here as the contract
 -- has it; of the batch and the program's function, what is returned and the answers buffer that is left, together.
-use Rattle.std.specs.Prelude.{◌≡◌, Bool, cond, List, ℕ, ◌+◌, ◌-◌, min, ℤ, pos, nat_abs, Float, ltb, length}
+use Rattle.std.specs.Prelude.{◌≡◌, Bool, cond, List, ℕ, ◌+◌, ◌-◌, min, ℤ, pos, nat_abs, Float, ltb, length, Result, Ok, Err}
 use Rattle.whole.specs.Sign as sign
 use Rattle.whole.specs.Sign.{signed_by}
 use Rattle.little.specs.LittleEndian.{twos_complement}
 use Rattle.grid.specs.Codes as codes
-use Rattle.grid.specs.Make.{coded_angle, coded_signed, coded_eccentricity, coded_depth}
-use Rattle.grid.specs.declared.CodedAngle.{CodedAngle}
-use Rattle.grid.specs.declared.CodedEccentricity.{CodedEccentricity}
-use Rattle.grid.specs.declared.CodedDepth.{CodedDepth}
+use Rattle.grid.specs.Make.{coded_angle, coded_signed, coded_flyby_angle, coded_eccentricity, coded_depth}
+use Rattle.grid.specs.declared.codes.Refusal.{Refusal}
 use Rattle.series.specs.Walk.{spent_at}
 use Rattle.series.specs.Entry.{sine_rule}
 use Rattle.series.specs.declared.Walk.{Walk}
@@ -19,35 +17,39 @@ use Rattle.series.specs.declared.Biased.{Biased}
 use Rattle.cosine.specs.Cosine.{cosine_rule}
 use Rattle.orbit.specs.Mirror as mirrors
 use Rattle.orbit.specs.Mirror.{mirror_end}
-use Rattle.orbit.specs.Cell.{grid_cell}
-use Rattle.orbit.specs.declared.Cell.{Cell}
+use Rattle.orbit.specs.Cell.{Cell, grid_cell}
 use Rattle.orbit.specs.Given.{Given, coded_cell, coded_problem}
-use Rattle.orbit.specs.declared.CodedCell.{CodedCell}
-use Rattle.orbit.specs.declared.CodedProblem.{CodedProblem}
-use Rattle.ends.specs.Entry.{flagged, lower_rule, upper_rule}
+use Rattle.orbit.specs.declared.pose.Problem.{Problem}
+use Rattle.orbit.specs.declared.pose.Posed.{Posed}
+use Rattle.ends.specs.Entry.{flagged, end_answer, lower_rule, upper_rule}
 use Rattle.ends.specs.declared.End.{End}
-use Rattle.enclosure.specs.Enclosure.{refusal, enclosure_rule}
+use Rattle.enclosure.specs.Halving.{Found}
+use Rattle.enclosure.specs.Enclosure.{refusal, enclosure_answer, enclosure_rule}
 use Rattle.enclosure.specs.declared.Enclosure.{Enclosure}
 use Rattle.rotations.specs.Rotate.{brought}
 use Rattle.proposal.specs.Propose.{proposal_rule}
 use Rattle.proposal.specs.declared.Proposal.{Proposal}
-use Rattle.units.specs.Units.{mirror_double, coded_units}
-use Rattle.units.specs.declared.CodedUnits.{CodedUnits}
+use Rattle.units.specs.Units.{mirror_double, is_below_zero, coded_units}
+use Rattle.units.specs.declared.Units.{Units}
 use Rattle.judge.specs.Verdict.{verdict_number}
 use Rattle.judge.specs.Judge.{Claim, judge_rule}
 use Rattle.judge.specs.Settle.{settle_rule}
+use Rattle.judge.specs.Limits.{coded_tolerance}
+use Rattle.judge.specs.Decision.{judged_answer, settled_answer}
+use Rattle.judge.specs.declared.Decision.{Decision}
 use Rattle.judge.specs.declared.Judged.{Judged}
 use Rattle.judge.specs.declared.Settled.{Settled}
 use Rattle.judge.specs.declared.Verdict.{Verdict}
 use Rattle.distance.specs.Distance.{distance_rule}
 use Rattle.distance.specs.declared.Off.{Off}
 use Rattle.step.specs.Entry.{step_rule, judged_rule}
+use Rattle.step.specs.Known.{coded_method}
+use Rattle.step.specs.declared.Method.{Method}
 use Rattle.step.specs.declared.Stepped.{Stepped}
 use Rattle.step.specs.declared.JudgedStep.{JudgedStep}
 use Rattle.sinh.specs.Entry.{sinh_rule}
 use Rattle.flyby.specs.Entry as flyby
-use Rattle.flyby.specs.Posed.{coded_flyby}
-use Rattle.flyby.specs.declared.CodedFlyby.{CodedFlyby}
+use Rattle.flyby.specs.Posed.{Flyby, coded_flyby}
 use Rattle.flyby_enclosure.specs.Enclosure as flyby_enclosure
 use Rattle.flyby_judge.specs.Judge as flyby_claims
 use Rattle.claims.specs.Form.{twenty}
@@ -72,7 +74,7 @@ pub record FileAllows (input before : List ℕ) (l : Left ℕ) : Type 0 where
   pub result : l.result ≡ length (output input)
   pub answers : l.answers ≡ output_in input before
 
-pub record Unique : Type 0 where
+pub record Unique : Type 1 where
   pub sine : (x depth : ℕ) → OneResult (λ (r : Bounds). r ≡ sine_rule x depth)
   pub cosine : (x depth : ℕ) → OneResult (λ (r : Bounds). r ≡ cosine_rule x depth)
   pub lower_end : (x : ℤ) (g : Given) (depth : ℕ) → OneResult (λ (r : End). r ≡ lower_rule x g depth)
@@ -92,28 +94,41 @@ pub record Unique : Type 0 where
   pub flyby_judge : (m b : ℕ) (estimate : Float) (n : ℕ) → OneResult (λ (r : Judged). r ≡ flyby_claims.judge_rule (flyby_claims.claim_of m b estimate n))
   pub judge_claims : (claims before : List ℕ) → OneResult (BatchAllows claims before)
   -- the checked constructors, and a double in units
-  pub angle : (units : ℕ) → OneResult (λ (r : CodedAngle). r ≡ coded_angle units)
-  pub signed_angle : (units : ℤ) → OneResult (λ (r : CodedAngle). r ≡ coded_signed units)
-  pub eccentricity : (units : ℕ) → OneResult (λ (r : CodedEccentricity). r ≡ coded_eccentricity units)
-  pub depth : (pairs : ℕ) → OneResult (λ (r : CodedDepth). r ≡ coded_depth pairs)
-  pub cell : (g : Given) → OneResult (λ (r : CodedCell). r ≡ coded_cell g)
-  pub problem : (g : Given) (depth : ℕ) → OneResult (λ (r : CodedProblem). r ≡ coded_problem g depth)
-  pub posed_flyby : (m b : ℕ) → OneResult (λ (r : CodedFlyby). r ≡ coded_flyby m b)
-  pub in_units : (value : Float) (limit code : ℕ) → OneResult (λ (r : CodedUnits). r ≡ coded_units value limit code)
-  -- the functions that crates share: the program's, the codes', what bounds are asked for, a walk's bounds and whether its terms
-  -- are spent, a cell of the grid, the clamps into 0 to a top, an end's flag and an enclosure's refusal, a verdict's number, signs and the mirror
+  pub angle : (units : ℕ) → OneResult (λ (r : Result ℕ Refusal). r ≡ coded_angle units)
+  pub signed_angle : (units : ℤ) → OneResult (λ (r : Result ℕ Refusal). r ≡ coded_signed units)
+  pub eccentricity : (units : ℕ) → OneResult (λ (r : Result ℕ Refusal). r ≡ coded_eccentricity units)
+  pub depth : (pairs : ℕ) → OneResult (λ (r : Result ℕ Refusal). r ≡ coded_depth pairs)
+  pub cell : (g : Given) → OneResult (λ (r : Result (Posed Cell) Refusal). r ≡ coded_cell g)
+  pub problem : (g : Given) (depth : ℕ) → OneResult (λ (r : Result (Posed Problem) Refusal). r ≡ coded_problem g depth)
+  pub posed_flyby : (m b : ℕ) → OneResult (λ (r : Result Flyby Refusal). r ≡ coded_flyby m b)
+  pub flyby_angle : (units : ℕ) → OneResult (λ (r : Result ℕ Refusal). r ≡ coded_flyby_angle units)
+  pub tolerance : (n : ℕ) → OneResult (λ (r : Result ℕ Refusal). r ≡ coded_tolerance n)
+  pub method : (n : ℕ) → OneResult (λ (r : Result Method Refusal). r ≡ coded_method n)
+  pub in_units : (R : Type 0) (value : Float) (limit : ℕ) (refusal : R)
+      → OneResult (λ (r : Result Units R). r ≡ coded_units value limit refusal)
+  pub is_below_zero : (value : Float) → OneResult (λ (r : Bool). r ≡ is_below_zero value)
+  -- the functions that crates share: the program's, a number within its limits, what bounds are asked for, a walk's bounds and
+  -- whether its terms are spent, the clamps into 0 to a top, answers as C has them, a verdict's number, signs and the mirror; and
+  -- what the definitions say that stand behind them: the code of two lists of checks, a cell of the grid, an end's flag, an
+  -- enclosure's refusal
   pub answer_file : (input before : List ℕ) → OneResult (FileAllows input before)
-  pub limited : (n limit code : ℕ) → OneResult (λ (r : ℕ). r ≡ cond (ltb limit n) code (codes.number codes.done))
-  pub spanned : (n least limit code : ℕ)
-      → OneResult (λ (r : ℕ). r ≡ cond (codes.or (ltb n least) (ltb limit n)) code (codes.number codes.done))
+  pub limited : (R : Type 0) (n limit : ℕ) (refusal : R)
+      → OneResult (λ (r : Result ℕ R). r ≡ cond (ltb limit n) (Err refusal) (Ok n))
+  pub spanned : (R : Type 0) (n least limit : ℕ) (refusal : R)
+      → OneResult (λ (r : Result ℕ R). r ≡ cond (codes.or (ltb n least) (ltb limit n)) (Err refusal) (Ok n))
+  pub code : (refusal : Refusal) → OneResult (λ (r : ℕ). r ≡ codes.number (codes.failed refusal))
   pub earlier : (code next : ℕ) → OneResult (λ (r : ℕ). r ≡ codes.earlier code next)
-  pub ask : (x depth : ℕ) → OneResult (λ (r : Asked). r ≡ asked_for x depth)
+  pub ask : (x depth : ℕ) → OneResult (λ (r : Result Asked Refusal). r ≡ asked_for x depth)
   pub best : (w : Walk) → OneResult (λ (r : Biased). r ≡ record { lo = w.greatest; hi = w.least })
   pub spent : (w : Walk) → OneResult (λ (r : Bool). r ≡ spent_at w)
   pub on_grid : (m a : ℕ) → OneResult (λ (r : Cell). r ≡ grid_cell m a)
   pub step_down : (x n : ℕ) → OneResult (λ (r : ℕ). r ≡ x - n)
   pub step_up : (x n top : ℕ) → OneResult (λ (r : ℕ). r ≡ min (x + n) top)
   pub flag : (accepted : Bool) → OneResult (λ (r : End). r ≡ flagged accepted)
+  pub end_of : (known : Result Bool Refusal) → OneResult (λ (r : End). r ≡ end_answer known)
+  pub judged_of : (known : Result Decision Refusal) → OneResult (λ (r : Judged). r ≡ judged_answer known)
+  pub settled_of : (known : Result Decision Refusal) → OneResult (λ (r : Settled). r ≡ settled_answer known)
+  pub enclosure_of : (known : Result (Posed Found) Refusal) → OneResult (λ (r : Enclosure). r ≡ enclosure_answer known)
   pub no_enclosure : (code : ℕ) → OneResult (λ (r : Enclosure). r ≡ refusal code)
   pub bring : (angle : ℤ) → OneResult (λ (r : ℕ). r ≡ brought angle)
   pub number_of : (v : Verdict) → OneResult (λ (r : ℕ). r ≡ verdict_number v)

@@ -10,7 +10,7 @@ use lib.IntN.{nat_abs}
 use Rattle.whole.proofs.Bools.{both_parts, both}
 use Rattle.grid.specs.Grid.{H_units, T_units, depths}
 use Rattle.orbit.specs.Given.{Given, cell_of}
-use Rattle.orbit.specs.declared.Cell.{Cell}
+use Rattle.orbit.specs.Cell.{Cell}
 use Rattle.ends.specs.Ends.{lower_end, upper_end}
 use Rattle.ends.specs.Exact.{ExactAt}
 use Rattle.ends.proofs.Known.{zero_lower, T_upper}

@@ -3,7 +3,7 @@ use Rattle.std.specs.Prelude.{ℕ, ◌+◌, ◌-◌, ◌^◌, ◌<◌, min, Bool
 use Rattle.whole.specs.First.{first_from}
 use Rattle.grid.specs.Grid.{T_units, depths}
 use Rattle.ends.specs.Ends.{lower_end, upper_end}
-use Rattle.orbit.specs.declared.Cell.{Cell}
+use Rattle.orbit.specs.Cell.{Cell}
 
 -- R38: the end below E: a difference of naturals is 0 where it would fall below
 abbrev pub low_at : ℕ → ℕ → ℕ

@@ -1,3 +1,2 @@
 pub mod Certify
 pub mod Propose
-pub mod Ready

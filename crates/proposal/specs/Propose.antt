@@ -1,9 +1,10 @@
 -- What the entry `propose` answers for what is given, R40.
-use Rattle.std.specs.Prelude.{ℕ, Bool, pos}
-use Rattle.grid.specs.Codes.{number, done, checked}
+use Rattle.std.specs.Prelude.{ℕ, Bool, pos, Result}
+use Rattle.grid.specs.Codes.{number, done, checked, allowed, answer}
+use Rattle.grid.specs.declared.codes.Refusal.{Refusal}
 use Rattle.orbit.specs.Mirror.{mirror}
+use Rattle.orbit.specs.Cell.{Cell}
 use Rattle.orbit.specs.Given.{Given, checks_of, mirrored_of, cell_of}
-use Rattle.orbit.specs.declared.Cell.{Cell}
 use Rattle.rotations.specs.Rotate.{rotated, brought}
 use Rattle.rotations.specs.declared.State.{State}
 use Rattle.proposal.specs.Certify.{certificate}
@@ -32,6 +33,14 @@ mirror_proposal mirrored r =
 -- R7: zeros beside a code
 abbrev pub proposal_refused : ℕ → Proposal
 proposal_refused code = record { code = code; angle = pos 0; y = pos 0; x = pos 0; j = 0 }
+
+-- R40: the first code that applies, or the proposal
+abbrev pub proposal_known : Given → Result Proposal Refusal
+proposal_known g = allowed (checks_of g) (mirror_proposal (mirrored_of g) (proposed (cell_of g)))
+
+-- R40: as the entry says it
+abbrev pub proposal_answer : Result Proposal Refusal → Proposal
+proposal_answer = answer proposal_refused (λ r. r)
 
 -- R40: codes 1 and 2 in that order, or the proposal
 unfoldable pub proposal_rule : Given → Proposal

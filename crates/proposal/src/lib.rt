@@ -1,16 +1,13 @@
 // The proposal: where the rotations end, and the certificate that says how near the root is.
 #![tactic(auto)]
 
-ghost use Rattle.std.specs.Prelude.{◌≡◌, ◌^◌, ◌<◌};
-ghost use Rattle.orbit.specs.Given.{grid, doubles};
-ghost use Rattle.orbit.specs.Posed.{ByCell, CodedCellIn};
-ghost use Rattle.proposal.specs.Certify.{widths, certifies, certificate};
-ghost use Rattle.proposal.specs.Propose.{concluded, mirror_proposal, proposal_rule};
-ghost use Rattle.proposal.specs.Ready.{Triable, Concludable};
+ghost use Rattle.std.specs.Prelude.{◌≡◌, ◌<◌};
+ghost use Rattle.proposal.specs.Certify.{widths, certifies};
+ghost use Rattle.proposal.specs.Propose.{proposed, mirror_proposal, proposal_known, proposal_answer, proposal_rule};
 
+use grid::codes::Refusal;
 use grid::{Angle, Depth, codes};
-use orbit::{Cell, CodedCell, Problem};
-use rotations::State;
+use orbit::pose::{Cell, Given, Problem};
 
 // The entry's answer. The angle is E; y is near e sin E, and x near e cos E.
 #[repr(C)]
@@ -23,103 +20,76 @@ pub struct Proposal {
     pub j: u32,
 }
 
-fn width_of(j: u32) -> u64
-    requires { j < widths }
-    ensures { result ≡ 2 ^ j }
-{
-    1u64 << j
-}
+// R38: how many widths 2^j there are: the last one reaches from 0 to T.
+const WIDTHS: u32 = 31;
 
-fn holds(cell: Cell, angle: u64, j: u32) -> bool
-    requires { Triable cell angle j }
+// R38: whether both ends of the width 2^j about E are accepted at depth 5.
+#[tactic(auto, unfolding(crate::specs::Certify::certifies))]
+fn holds(cell: Cell, angle: Angle, j: u32) -> bool
+    requires { j < widths }
     ensures { result ≡ certifies cell angle j }
 {
-    let width = width_of(j);
+    let width = 1u64 << j;
+    let units = angle.units;
     let low = Angle {
-        units: grid::step_down(angle, width),
+        units: grid::step_down(units, width),
     };
     let high = Angle {
-        units: grid::step_up(angle, width, grid::T),
+        units: grid::step_up(units, width, grid::T),
     };
     let depth = Depth {
         pairs: Depth::GREATEST,
     };
-    let problem = Problem { cell, depth };
-    if ends::lower(problem, low) {
-        ends::upper(problem, high)
-    } else {
-        false
-    }
+    ends::lower(Problem { cell, depth }, low) && ends::upper(Problem { cell, depth }, high)
 }
 
-// R38: the smallest width 2^j about E whose two ends are accepted.
-fn certify(cell: Cell, angle: u64) -> u32
-    requires { Triable cell angle 0 }
-    ensures { result ≡ certificate cell angle }
+// The rotations by M and A rounded down, with E brought into range and certified (R38): the last width always holds. R59: on the
+// mirror E and y change their signs, and x does not.
+fn conclude(cell: Cell, mirrored: bool) -> Proposal
+    ensures { result ≡ mirror_proposal mirrored (proposed cell) }
 {
-    let mut i: u32 = 0;
-    let j = loop {
-        if holds(cell, angle, i) {
-            break i;
-        }
-        i += 1;
-    };
-    j
-}
-
-// A final state, with E brought into range and certified. R59: on the mirror E and y change their signs, and x does not.
-fn conclude(cell: Cell, s: State, mirrored: bool) -> Proposal
-    requires { Concludable cell s }
-    ensures { result ≡ mirror_proposal mirrored (concluded cell s) }
-{
-    let angle = rotations::bring(s.angle);
-    let j = certify(cell, angle);
+    let m = cell.m;
+    let a = cell.a;
+    let s = rotations::rotate(m.down, a.down);
+    let units = rotations::bring(s.angle);
+    let angle = Angle { units };
+    let j = (0..WIDTHS).find(move |&j| holds(cell, angle, j)).unwrap();
     Proposal {
         code: codes::DONE,
-        angle: orbit::mirror_angle(angle, mirrored),
+        angle: orbit::mirror_angle(units, mirrored),
         y: orbit::mirror(s.sine, mirrored),
         x: s.cosine,
         j,
     }
 }
 
-// The proposal for whatever was given, or its code: the rotations go by M and A rounded down.
-fn propose_posed(posed: CodedCell) -> Proposal
-    requires { CodedCellIn posed }
-    ensures { ByCell posed proposal_rule result }
+// The proposal for whatever is given, or why there is none: code 1, then 2.
+fn posed_proposal<G: Given>(given: G) -> Result<Proposal, Refusal>
+    ensures { result ≡ proposal_known (G.given given) }
 {
-    if posed.code != codes::DONE {
-        return Proposal {
-            code: posed.code,
+    let posed = given.pose()?;
+    Ok(conclude(posed.of, posed.mirrored))
+}
+
+impl From<Result<Proposal, Refusal>> for Proposal {
+    ghost from_gives = { λ known r. r ≡ proposal_answer known };
+
+    fn from(known: Result<Proposal, Refusal>) -> Self {
+        known.unwrap_or_else(|refusal| Proposal {
+            code: refusal.code(),
             angle: 0,
             y: 0,
             x: 0,
             j: 0,
-        };
+        })
     }
-    let cell = posed.cell;
-    let mean = cell.m;
-    let shape = cell.a;
-    conclude(
-        cell,
-        rotations::rotate(mean.down, shape.down),
-        posed.mirrored,
-    )
 }
 
-// Given: the mean anomaly m, -H to H units, and the eccentricity a / 2^28, a from 0 to 2^28.
 // Returned: the angle E proposed, y and x of the last rotation, and the certificate j, the smallest width such that the ends
 // max(E - 2^j, 0) and min(E + 2^j, T) are accepted at depth 5 (R38). How near E is, j alone says (R39).
-// Code: 0 done; 1 m above H; 2 a above 2^28. With code 1 or 2 all other numbers are 0.
-pub fn propose(m: i32, a: u32) -> Proposal
-    ensures { result ≡ proposal_rule (grid m a) }
+// Code: 0 done; 1 M out of its limits; 2 the eccentricity out of its limits. With code 1 or 2 all other numbers are 0.
+pub fn propose<G: Given>(given: G) -> Proposal
+    ensures { result ≡ proposal_rule (G.given given) }
 {
-    propose_posed(Cell::new(m, a))
-}
-
-// R60: the same of M in radians and e as doubles.
-pub fn propose_double(m: f64, e: f64) -> Proposal
-    ensures { result ≡ proposal_rule (doubles m e) }
-{
-    propose_posed(Cell::of_doubles(m, e))
+    Proposal::from(posed_proposal(given))
 }

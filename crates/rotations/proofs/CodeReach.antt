@@ -61,7 +61,7 @@ start_reached a h =
       sine = omega arith;
     }
 
-pub reached : (m a n : ℕ) → a ≤ one → n ≤ fifty → Reached n (rotations m n (start a))
+reached : (m a n : ℕ) → a ≤ one → n ≤ fifty → Reached n (rotations m n (start a))
 unfolding rotations
 reached m a zero h k = start_reached a h
 reached m a (suc n) h k =
@@ -77,7 +77,7 @@ last : reach fifty ≤ room
 unfolding reach
 last = lit≤ tt
 
-pub roomy : {n : ℕ} {s : State} → n ≤ fifty → Reached n s → RoomyState s
+roomy : {n : ℕ} {s : State} → n ≤ fifty → Reached n s → RoomyState s
 roomy {n} {s} k w =
     let b : reach n ≤ reach (n + (fifty - n)) = rises n (fifty - n) in
     let l : reach (n + (fifty - n)) ≤ room = rw add-sub_of_le last in
@@ -87,7 +87,11 @@ roomy {n} {s} k w =
       sine = record { size = let a = w.sine in omega arith };
     }
 
+-- so every state on the way has room
+pub rotations_roomy : (m a n : ℕ) → a ≤ one → n ≤ fifty → RoomyState (rotations m n (start a))
+rotations_roomy m a n h k = roomy k (reached m a n h k)
+
 -- where they end
 pub rotated_roomy : (m a : ℕ) → a ≤ one → RoomyState (rotated m a)
 unfolding rotated
-rotated_roomy m a h = roomy (le_refl fifty) (reached m a fifty h (le_refl fifty))
+rotated_roomy m a h = rotations_roomy m a fifty h (le_refl fifty)

@@ -9,7 +9,7 @@ ghost use Rattle.rotations.specs.Rotate.{shifted, shift_of, turned, plus_at, sta
 ghost use Rattle.rotations.specs.Room.{Shiftable, Turnable, Signable};
 
 // E, and x and y: e times the cosine and the sine of E. All are in units.
-#[derive(Clone, Copy)]
+#[derive(Clone, Copy, Debug, PartialEq, Eq)]
 pub struct State {
     pub angle: i64,
     pub cosine: i64,
@@ -74,57 +74,56 @@ fn part(z: i64, k: u32, plus: bool) -> i64
     whole::signed(z >> k, plus)
 }
 
-// One rotation by the angle of entry k, with its sign given.
-#[tactic(auto, using(crate::proofs::CodeSize::roomy_entry))]
-fn turn(s: State, k: u32, plus: bool) -> State
-    requires { Turnable s k }
-    ensures { result ≡ turned s k plus }
-{
-    let angle = s.angle + whole::signed(entry(k), plus);
-    let old = s.cosine;
-    let cosine = old - part(s.sine, k, plus);
-    let sine = s.sine + part(old, k, plus);
-    State {
-        angle,
-        cosine,
-        sine,
+impl State {
+    // R35: the state before the first rotation.
+    #[tactic(auto, unfolding(crate::specs::Rotate::start, crate::specs::Table::G))]
+    fn start(a: u64) -> State
+        requires { a ≤ one }
+        ensures { result ≡ start a }
+    {
+        State {
+            angle: 0,
+            cosine: (a * G / grid::ONE) as i64,
+            sine: 0,
+        }
     }
-}
 
-// R36: the sign of the next rotation, true for plus.
-#[tactic(auto, unfolding(crate::specs::Rotate::plus_at))]
-fn sign(s: State, m: u64) -> bool
-    requires { Signable s m }
-    ensures { result ≡ plus_at m s }
-{
-    s.angle - s.sine < m as i64
-}
+    // R36: the sign of the next rotation, true for plus.
+    #[tactic(auto, unfolding(crate::specs::Rotate::plus_at))]
+    fn sign(self, m: u64) -> bool
+        requires { Signable self m }
+        ensures { result ≡ plus_at m self }
+    {
+        self.angle - self.sine < m as i64
+    }
 
-// R35: the state before the first rotation.
-#[tactic(auto, unfolding(crate::specs::Rotate::start, crate::specs::Table::G))]
-fn start(a: u64) -> State
-    requires { a ≤ one }
-    ensures { result ≡ start a }
-{
-    State {
-        angle: 0,
-        cosine: (a * G / grid::ONE) as i64,
-        sine: 0,
+    // One rotation by the angle of entry k, with its sign given.
+    #[tactic(auto, using(crate::proofs::CodeSize::roomy_entry))]
+    fn turn(self, k: u32, plus: bool) -> State
+        requires { Turnable self k }
+        ensures { result ≡ turned self k plus }
+    {
+        let angle = self.angle + whole::signed(entry(k), plus);
+        let cosine = self.cosine - part(self.sine, k, plus);
+        let sine = self.sine + part(self.cosine, k, plus);
+        State {
+            angle,
+            cosine,
+            sine,
+        }
     }
 }
 
 // All rotations of M and A.
+#[tactic(auto, unfolding(crate::specs::Rotate::rotations, crate::specs::Rotate::rotated))]
 pub fn rotate(m: u64, a: u64) -> State
     requires mean { m ≤ H_units }
     requires shape { a ≤ one }
     ensures { result ≡ rotated m a }
 {
-    let mut s = start(a);
-    let mut i = 0;
-    while i < ROTATIONS {
-        let plus = sign(s, m);
-        s = turn(s, shift_of(i), plus);
-        i += 1;
+    let mut s = State::start(a);
+    for i in 0..ROTATIONS {
+        s = s.turn(shift_of(i), s.sign(m));
     }
     s
 }
@@ -133,9 +132,5 @@ pub fn rotate(m: u64, a: u64) -> State
 pub fn bring(angle: i64) -> u64
     ensures { result ≡ brought angle }
 {
-    if angle < 0 {
-        return 0;
-    }
-    let n = angle as u64;
-    if n <= grid::T { n } else { grid::T }
+    angle.clamp(0, grid::T as i64) as u64
 }

@@ -12,7 +12,7 @@ use Rattle.series.specs.Bounds.{greatest_low, least_high}
 use Rattle.series.specs.Exact.{den}
 use Rattle.series.specs.Sine.{sine, Lo, Hi}
 use Rattle.series.proofs.TermLimits.{Divides}
-use Rattle.series.proofs.SineTerms.{sine_divides}
+use Rattle.series.proofs.OfSine.{sine_divides}
 use Rattle.series.proofs.TermsTrue.{den_pos}
 use Rattle.series.proofs.Sums.{S_parts}
 use Rattle.series.proofs.Falling.{TermsFall, T_fall}

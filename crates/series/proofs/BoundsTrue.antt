@@ -11,7 +11,7 @@ use Rattle.series.specs.Bounds.{raw_low, raw_high, greatest_low, least_high}
 use Rattle.series.specs.Exact.{den, S}
 use Rattle.series.specs.Sine.{sine, Lo, Hi, S9, S10, den9, den10}
 use Rattle.series.proofs.TermLimits.{Divides}
-use Rattle.series.proofs.SineTerms.{sine_divides}
+use Rattle.series.proofs.OfSine.{sine_divides}
 use Rattle.series.proofs.Falling.{TermsFall, T_fall}
 use Rattle.series.proofs.RawTrue.{low-true, high-true}
 

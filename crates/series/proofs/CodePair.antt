@@ -11,7 +11,8 @@ use Rattle.series.specs.Bounds.{evens, odds, raw_low, raw_high, greatest_low, le
 use Rattle.series.specs.Walk.{bias, biased, best_low, best_high, walk, deepened, term_limit, TermFits, Room, PairFits}
 use Rattle.series.specs.declared.Walk.{Walk}
 use Rattle.series.proofs.TermLimits.{Q_order, evens_limit, odds_limit}
-use Rattle.series.proofs.CodeRange.{InRange, l_limit, raw_low_in, raw_high_in, greatest_in, least_in}
+use Rattle.series.specs.Walk.{InRange}
+use Rattle.series.proofs.CodeRange.{l_limit, raw_low_in, raw_high_in, greatest_in, least_in}
 use Rattle.series.proofs.CodeBias.{biased_step, biased_small, biased-greater, biased-lesser}
 
 -- sums of at most six terms are below 2^34

@@ -4,19 +4,13 @@ use native.Mathlib.Omega.{arith}
 use native.Mathlib.Nat.{le_trans, mul-le-mul}
 use lib.IntN.{ℤ}
 use Rattle.grid.specs.Grid.{T_units, depths}
-use Rattle.series.specs.Terms.{Series, Q+, l, u}
+use Rattle.series.specs.Terms.{Series, l, u}
 use Rattle.series.specs.Bounds.{raw_low, raw_high, greatest_low, least_high}
 use Rattle.series.specs.Sine.{sine, Lo, Hi}
-use Rattle.series.specs.Walk.{term_limit, TermFits}
+use Rattle.series.specs.Walk.{term_limit, InRange}
 use Rattle.series.proofs.TermLimits.{Divides, l-le-u, Q_within}
 use Rattle.series.proofs.BoundLimits.{Bounded, raw_low_within, raw_high_within, greatest_within, least_within}
-use Rattle.series.proofs.SineTerms.{sine_divides, u_within}
-
--- all terms of s at X are small, and up to the last one made each can be made into the next
-pub record InRange (s : Series) (X : ℕ) : Type 0 where
-  pub divides : Divides s
-  pub terms : (k : ℕ) → u s X k ≤ term_limit
-  pub fits : (k : ℕ) → k < 2 * depths → TermFits (u s X k) (Q+ X) (s.divisor (suc k))
+use Rattle.series.proofs.OfSine.{sine_divides, u_within}
 
 -- below 2^34: depth 5 has at most 6 terms of a sign
 abbrev pub bound_limit : ℕ

@@ -11,7 +11,7 @@ use Rattle.series.specs.Walk.{bias, biased_bounds, best_low, best_high, walk, be
 use Rattle.series.specs.declared.Walk.{Walk}
 use Rattle.series.specs.declared.Biased.{Biased}
 use Rattle.series.proofs.CodeBias.{biased_is}
-use Rattle.series.proofs.CodeRange.{InRange}
+use Rattle.series.specs.Walk.{InRange}
 use Rattle.series.proofs.CodePair.{odd_divisor, even_divisor, pair_fits, paired}
 
 -- before the first pair

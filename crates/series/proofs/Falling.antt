@@ -14,7 +14,7 @@ use Rattle.series.specs.Terms.{Series}
 use Rattle.series.specs.Exact.{num, ratio, den, even, S}
 use Rattle.series.specs.Sine.{sine}
 use Rattle.series.proofs.Sums.{same, other, Parted, S_parts}
-use Rattle.series.proofs.SineTerms.{from_20}
+use Rattle.series.proofs.OfSine.{from_20}
 
 -- the exact terms fall from term 1 on: x^2 is at most every divisor but the first, multiplied out by 2^56
 abbrev pub TermsFall : Series → ℕ → Type 0

@@ -13,7 +13,7 @@ pub mod Falling
 pub mod Next
 pub mod RawTrue
 pub mod Rise
-pub mod SineTerms
+pub mod OfSine
 pub mod Stays
 pub mod Sums
 pub mod TermLimits

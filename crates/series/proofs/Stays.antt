@@ -16,7 +16,7 @@ use Rattle.series.specs.Terms.{Series, Q-, l, u}
 use Rattle.series.specs.Bounds.{evens, odds, raw_low, raw_high, greatest_low, least_high, Spent}
 use Rattle.series.specs.Sine.{sine, last_spent}
 use Rattle.series.proofs.TermLimits.{l_mono, u_mono}
-use Rattle.series.proofs.SineTerms.{sine_divides}
+use Rattle.series.proofs.OfSine.{sine_divides}
 use Rattle.series.proofs.Deeper.{greatest_rises, least_falls, raw_le_greatest, least_le_raw}
 
 -- a lower term of 0 alone does it: every later one is 0 too

@@ -13,7 +13,7 @@ use Rattle.series.specs.Terms.{Series, Q-, Q+, l, u}
 use Rattle.series.specs.Bounds.{evens, odds, raw_low, raw_high, greatest_low, least_high}
 use Rattle.series.specs.Sine.{sine, Lo, Hi}
 use Rattle.series.proofs.TermLimits.{Divides, unit_pos, Q_within}
-use Rattle.series.proofs.SineTerms.{sine_divides, from_20, l_within, u10_within}
+use Rattle.series.proofs.OfSine.{sine_divides, from_20, l_within, u10_within}
 use Rattle.series.proofs.Deeper.{raw_le_greatest, least_le_raw}
 
 pub Q_gap : (X : ℕ) → Q+ X ≤ Q- X + 1

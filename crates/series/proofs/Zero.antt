@@ -11,7 +11,7 @@ use Rattle.grid.specs.Grid.{one}
 use Rattle.series.specs.Terms.{l, u, Q+}
 use Rattle.series.specs.Sine.{sine, Lo, Hi}
 use Rattle.series.proofs.TermLimits.{unit_pos, l-le-u}
-use Rattle.series.proofs.SineTerms.{sine_divides}
+use Rattle.series.proofs.OfSine.{sine_divides}
 use Rattle.series.proofs.BoundLimits.{Bounded, greatest_within, least_within}
 
 u-zero : (k : ℕ) → u sine 0 k ≤ 0

@@ -1,20 +1,17 @@
 -- What the functions behind an entry that bounds a series take and answer. No entry's contract cites this file.
-use Rattle.std.specs.Prelude.{ℕ, ◌*◌, ◌≤◌}
+use Rattle.std.specs.Prelude.{ℕ, ◌*◌, ◌≤◌, Result}
 use Rattle.std.proofs.Math.IntN.{sub_ℕ}
-use Rattle.grid.specs.Codes.{number, done, checked}
+use Rattle.grid.specs.Codes.{number, done, allowed}
+use Rattle.grid.specs.declared.codes.Refusal.{Refusal}
 use Rattle.series.specs.Entry.{bounds_checks}
 use Rattle.series.specs.Walk.{bias}
 use Rattle.series.specs.declared.Asked.{Asked}
 use Rattle.series.specs.declared.Biased.{Biased}
 use Rattle.series.specs.declared.Bounds.{Bounds}
 
--- R4: a code, an angle and a depth
-abbrev pub asked_with : ℕ → ℕ → ℕ → Asked
-asked_with code x d = record { code = code; angle = record { units = x }; depth = record { pairs = d } }
-
 -- R4, R16: the first code that applies, or what is asked about
-abbrev pub asked_for : ℕ → ℕ → Asked
-asked_for x d = checked (bounds_checks x d) (λ k. asked_with k 0 0) (asked_with (number done) x d)
+abbrev pub asked_for : ℕ → ℕ → Result Asked Refusal
+asked_for x d = allowed (bounds_checks x d) (record { angle = x; depth = d })
 
 -- bounds that are biased by 2^34, and so read back
 pub record Small (b : Biased) : Type 0 where

@@ -125,6 +125,12 @@ pub record PairFits (w : Walk) (odd even : ℕ) : Type 0 where
   pub low : Room w.low w.down (odd_up w odd)
   pub high : Room w.high (even_up w odd even) (odd_down w odd)
 
+-- all terms of s at X are small, and up to the last one made each can be made into the next
+pub record InRange (s : Series) (X : ℕ) : Type 0 where
+  pub divides : (k : ℕ) → 0 < s.divisor (suc k)
+  pub terms : (k : ℕ) → u s X k ≤ term_limit
+  pub fits : (k : ℕ) → k < 2 * depths → TermFits (u s X k) (Q+ X) (s.divisor (suc k))
+
 -- a walk with a pair to go
 pub record Unfinished (s : Series) (w : Walk) : Type 0 where
   pub at : w ≡ walk s w.angle w.pairs

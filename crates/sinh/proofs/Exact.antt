@@ -9,7 +9,7 @@ use Rattle.series.specs.Sine.{sine}
 use Rattle.series.proofs.Sums.{same, other}
 use Rattle.series.proofs.TermsTrue.{Order, Least, upward, downward, l-true, u-true}
 use Rattle.series.proofs.RawTrue.{sames, others, sums_true}
-use Rattle.series.proofs.SineTerms.{sine_divides}
+use Rattle.series.proofs.OfSine.{sine_divides}
 use Rattle.series.proofs.Rise.{term_rises}
 use Rattle.sinh.specs.Sinh.{last, total, low, high, plain_sum, S, t9, den_s}
 

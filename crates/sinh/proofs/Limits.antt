@@ -10,7 +10,7 @@ use Rattle.grid.specs.Flyby.{X_top}
 use Rattle.series.specs.Terms.{l, u, Q+}
 use Rattle.series.specs.Sine.{sine}
 use Rattle.series.proofs.TermLimits.{unit_pos, l_mono, u_mono, l-le-u}
-use Rattle.series.proofs.SineTerms.{sine_divides}
+use Rattle.series.proofs.OfSine.{sine_divides}
 use Rattle.sinh.specs.Sinh.{last, total, low, high}
 
 -- terms that are not above others, with term 0 at least j below, have a sum that is at least j below theirs

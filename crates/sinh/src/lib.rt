@@ -9,7 +9,7 @@ ghost use Rattle.sinh.specs.Sinh.{last, low, high};
 ghost use Rattle.sinh.specs.Adding.{rounded, square, added_to};
 ghost use Rattle.sinh.specs.Entry.{sinh_rule};
 
-use grid::codes;
+use grid::{FlybyAngle, codes};
 use series::Bounds;
 
 // R82: the number of the last term.
@@ -23,23 +23,24 @@ struct Added {
 }
 
 // X^2 in units, rounded up where the bound is to lie above.
-fn square_of(x: u64, above: bool) -> u64
-    requires { x ≤ X_top }
-    ensures { result ≡ square above x }
+fn square_of<const ABOVE: bool>(x: FlybyAngle) -> u64
+    ensures value { result ≡ square ABOVE x }
+    ensures within { x ≤ X_top }
 {
-    if above {
-        (x * x + (grid::ONE - 1)) >> 28
+    let squared = x.units * x.units;
+    if ABOVE {
+        (squared + (grid::ONE - 1)) >> 28
     } else {
-        (x * x) >> 28
+        squared >> 28
     }
 }
 
 // The term after t, rounded likewise.
-fn next_term(t: u64, q: u64, divisor: u64, above: bool) -> u64
+fn next_term<const ABOVE: bool>(t: u64, q: u64, divisor: u64) -> u64
     requires { TermFits t q divisor }
-    ensures { result ≡ rounded above (t * q) (one * divisor) }
+    ensures { result ≡ rounded ABOVE (t * q) (one * divisor) }
 {
-    if above {
+    if ABOVE {
         series::term_up(t, q, divisor)
     } else {
         series::term_down(t, q, divisor)
@@ -47,51 +48,52 @@ fn next_term(t: u64, q: u64, divisor: u64, above: bool) -> u64
 }
 
 // The terms 0 to 9, added. A compiler writes the nine turns out, so that the quotients are products.
-fn add_terms(x: u64, above: bool) -> Added
-    requires { x ≤ X_top }
-    ensures { result ≡ added_to above x last }
+fn add_terms<const ABOVE: bool>(x: FlybyAngle) -> Added
+    ensures value { result ≡ added_to ABOVE x last }
+    ensures within { x ≤ X_top }
 {
-    let q = square_of(x, above);
-    let mut term = x;
-    let mut sum = x;
-    let mut k = 0;
-    while k < LAST {
-        k = k + 1;
-        term = next_term(term, q, 2 * k * (2 * k + 1), above);
-        sum = sum + term;
+    let q = square_of::<ABOVE>(x);
+    let mut term = x.units;
+    let mut sum = x.units;
+    for k in 1..=LAST {
+        term = next_term::<ABOVE>(term, q, 2 * k * (2 * k + 1));
+        sum += term;
     }
     Added { term, sum }
 }
 
 // R82: the lower bound.
-pub fn low(x: u64) -> u64
-    requires { x ≤ X_top }
+#[tactic(auto, unfolding(crate::specs::Sinh::low))]
+pub fn low(x: FlybyAngle) -> u64
     ensures { result ≡ low x }
 {
-    add_terms(x, false).sum
+    add_terms::<false>(x).sum
 }
 
 // R82: the upper bound, with the last term once more.
-pub fn high(x: u64) -> u64
-    requires { x ≤ X_top }
+#[tactic(auto, unfolding(crate::specs::Sinh::high), using(crate::proofs::Limits::high_small))]
+pub fn high(x: FlybyAngle) -> u64
     ensures { result ≡ high x }
 {
-    let all = add_terms(x, true);
+    let all = add_terms::<true>(x);
     all.sum + all.term
 }
 
 // R84: low and high of x units, or code 10.
+#[tactic(auto, unfolding(crate::specs::Entry::sinh_rule), using(crate::proofs::Limits::low_small, crate::proofs::Limits::high_small))]
 pub fn sinh(x: u32) -> Bounds
     ensures { result ≡ sinh_rule x }
 {
-    let code = codes::limited(x, grid::FLYBY_TOP, codes::BAD_X);
-    if code != codes::DONE {
-        return Bounds { code, lo: 0, hi: 0 };
-    }
-    let wide = x as u64;
-    Bounds {
-        code,
-        lo: low(wide) as i64,
-        hi: high(wide) as i64,
+    match FlybyAngle::try_from(x) {
+        Ok(x) => Bounds {
+            code: codes::DONE,
+            lo: low(x) as i64,
+            hi: high(x) as i64,
+        },
+        Err(refusal) => Bounds {
+            code: refusal.code(),
+            lo: 0,
+            hi: 0,
+        },
     }
 }

@@ -10,9 +10,9 @@ use Rattle.grid.specs.Grid.{T_units, depths}
 use Rattle.whole.proofs.Parts.{by_test}
 use Rattle.series.specs.Terms.{Series}
 use Rattle.series.specs.Bounds.{greatest_low}
-use Rattle.series.specs.Walk.{bias, biased}
+use Rattle.series.specs.Walk.{bias, biased, InRange}
 use Rattle.series.proofs.CodeBias.{biased_small, unbiased_is}
-use Rattle.series.proofs.CodeRange.{InRange, InBounds, greatest_in}
+use Rattle.series.proofs.CodeRange.{InBounds, greatest_in}
 use Rattle.step.specs.Step.{in_radians}
 
 -- up to 2^53

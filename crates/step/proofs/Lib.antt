@@ -1,7 +1,4 @@
 pub mod Answered
-pub mod CodeFlat
-pub mod CodeJudge
-pub mod CodePlace
 pub mod CodeUnits
 pub mod EitherZero
 pub mod HandedOver

@@ -10,7 +10,8 @@ use lib.Dec.{eqb}
 use lib.IntN.{ℤ, pos, negsuc, nat_abs}
 use lib.Ieee.{Float, neg, eq}
 use Rattle.grid.specs.Grid.{T_units}
-use Rattle.grid.specs.Codes.{number, bad_estimate, Passed, method_check}
+use Rattle.grid.specs.Codes.{number, failed, Passed, method_check}
+use Rattle.grid.specs.declared.codes.Refusal.TheVariants.{BadEstimate}
 use Rattle.grid.proofs.Outcomes.{of_checked}
 use Rattle.units.specs.Units.{off_range, floor_and_ceiling}
 use Rattle.orbit.specs.Given.{grid, mirrored_of}
@@ -88,14 +89,14 @@ module _ (m : ℤ) (a : ℕ) (y : Float) (within : off_range T_units (posed_as m
   no_4 : off_range T_units (posed_as m a y) ≡ true → ⊥
   no_4 e = true≢false (sym e ∙ within)
 
-  pub judge-not_4 : (n d : ℕ) → (judge_rule (claim_of (grid m a) y n d)).code ≡ number bad_estimate → ⊥
+  pub judge-not_4 : (n d : ℕ) → (judge_rule (claim_of (grid m a) y n d)).code ≡ number (failed BadEstimate) → ⊥
   unfolding judge_rule
   judge-not_4 n d =
       let k = claim_of (grid m a) y n d in
       of_checked (λ (r : Judged). r.code ≡ 4 → ⊥) unjudged (verdict (case_verdict (case_at k))) (claim_checks k)
       (λ t e. omega arith, (λ t e. omega arith, (λ t e. omega arith, (λ t e. no_4 t, (λ t e. omega arith, tt))))) (λ p e. omega arith)
 
-  pub step_not_4 : (method : ℕ) → (step_rule m a y method).code ≡ number bad_estimate → ⊥
+  pub step_not_4 : (method : ℕ) → (step_rule m a y method).code ≡ number (failed BadEstimate) → ⊥
   unfolding step_rule
   step_not_4 method =
       of_checked (λ (r : Stepped). r.code ≡ 4 → ⊥) unstepped (stepped_as (step_from m a y method)) (step_checks m a y method)

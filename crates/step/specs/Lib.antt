@@ -1,3 +1,3 @@
 pub mod Step
 pub mod Entry
-pub mod Limits
+pub mod Known

@@ -24,6 +24,7 @@ use distance::Off;
 use enclosure::Enclosure;
 use ends::End;
 use judge::{Judged, Settled};
+use orbit::pose::{Doubles, Grid};
 use proposal::Proposal;
 use series::Bounds;
 use step::{JudgedStep, Stepped};
@@ -46,63 +47,63 @@ pub extern "C" fn stripeawn_cosine(x: u32, depth: u32) -> Bounds
 pub extern "C" fn stripeawn_lower_end(x: i32, m: i32, a: u32, depth: u32) -> End
     ensures { result ≡ lower_rule x (grid m a) depth }
 {
-    ends::lower_end(x, m, a, depth)
+    ends::lower_end(x, Grid { m, a }, depth)
 }
 
 #[unsafe(no_mangle)]
 pub extern "C" fn stripeawn_upper_end(x: i32, m: i32, a: u32, depth: u32) -> End
     ensures { result ≡ upper_rule x (grid m a) depth }
 {
-    ends::upper_end(x, m, a, depth)
+    ends::upper_end(x, Grid { m, a }, depth)
 }
 
 #[unsafe(no_mangle)]
 pub extern "C" fn stripeawn_lower_end_double(x: i32, m: f64, e: f64, depth: u32) -> End
     ensures { result ≡ lower_rule x (doubles m e) depth }
 {
-    ends::lower_end_double(x, m, e, depth)
+    ends::lower_end(x, Doubles { m, e }, depth)
 }
 
 #[unsafe(no_mangle)]
 pub extern "C" fn stripeawn_upper_end_double(x: i32, m: f64, e: f64, depth: u32) -> End
     ensures { result ≡ upper_rule x (doubles m e) depth }
 {
-    ends::upper_end_double(x, m, e, depth)
+    ends::upper_end(x, Doubles { m, e }, depth)
 }
 
 #[unsafe(no_mangle)]
 pub extern "C" fn stripeawn_enclose(m: i32, a: u32, depth: u32) -> Enclosure
     ensures { result ≡ enclosure_rule (grid m a) depth }
 {
-    enclosure::enclose(m, a, depth)
+    enclosure::enclose(Grid { m, a }, depth)
 }
 
 #[unsafe(no_mangle)]
 pub extern "C" fn stripeawn_enclose_double(m: f64, e: f64, depth: u32) -> Enclosure
     ensures { result ≡ enclosure_rule (doubles m e) depth }
 {
-    enclosure::enclose_double(m, e, depth)
+    enclosure::enclose(Doubles { m, e }, depth)
 }
 
 #[unsafe(no_mangle)]
 pub extern "C" fn stripeawn_propose(m: i32, a: u32) -> Proposal
     ensures { result ≡ proposal_rule (grid m a) }
 {
-    proposal::propose(m, a)
+    proposal::propose(Grid { m, a })
 }
 
 #[unsafe(no_mangle)]
 pub extern "C" fn stripeawn_propose_double(m: f64, e: f64) -> Proposal
     ensures { result ≡ proposal_rule (doubles m e) }
 {
-    proposal::propose_double(m, e)
+    proposal::propose(Doubles { m, e })
 }
 
 #[unsafe(no_mangle)]
 pub extern "C" fn stripeawn_judge(m: i32, a: u32, estimate: f64, n: u32, depth: u32) -> Judged
     ensures { result ≡ judge_rule (record { given = grid m a; estimate = estimate; n = n; depth = depth }) }
 {
-    judge::judge(m, a, estimate, n, depth)
+    judge::judge(Grid { m, a }, estimate, n, depth)
 }
 
 #[unsafe(no_mangle)]
@@ -115,42 +116,42 @@ pub extern "C" fn stripeawn_judge_double(
 ) -> Judged
     ensures { result ≡ judge_rule (record { given = doubles m e; estimate = estimate; n = n; depth = depth }) }
 {
-    judge::judge_double(m, e, estimate, n, depth)
+    judge::judge(Doubles { m, e }, estimate, n, depth)
 }
 
 #[unsafe(no_mangle)]
 pub extern "C" fn stripeawn_settle(m: i32, a: u32, estimate: f64, n: u32) -> Settled
     ensures { result ≡ settle_rule (grid m a) estimate n }
 {
-    judge::settle(m, a, estimate, n)
+    judge::settle(Grid { m, a }, estimate, n)
 }
 
 #[unsafe(no_mangle)]
 pub extern "C" fn stripeawn_settle_double(m: f64, e: f64, estimate: f64, n: u32) -> Settled
     ensures { result ≡ settle_rule (doubles m e) estimate n }
 {
-    judge::settle_double(m, e, estimate, n)
+    judge::settle(Doubles { m, e }, estimate, n)
 }
 
 #[unsafe(no_mangle)]
 pub extern "C" fn stripeawn_distance(m: i32, a: u32, estimate: f64) -> Off
     ensures { result ≡ distance_rule (grid m a) estimate }
 {
-    distance::distance(m, a, estimate)
+    distance::distance(Grid { m, a }, estimate)
 }
 
 #[unsafe(no_mangle)]
 pub extern "C" fn stripeawn_distance_double(m: f64, e: f64, estimate: f64) -> Off
     ensures { result ≡ distance_rule (doubles m e) estimate }
 {
-    distance::distance_double(m, e, estimate)
+    distance::distance(Doubles { m, e }, estimate)
 }
 
 #[unsafe(no_mangle)]
 pub extern "C" fn stripeawn_step(m: i32, a: u32, estimate: f64, method: u32) -> Stepped
     ensures { result ≡ step_rule m a estimate method }
 {
-    step::step(m, a, estimate, method)
+    step::step(Grid { m, a }, estimate, method)
 }
 
 #[unsafe(no_mangle)]
@@ -164,7 +165,7 @@ pub extern "C" fn stripeawn_step_judged(
 ) -> JudgedStep
     ensures { result ≡ judged_rule m a estimate method n depth }
 {
-    step::step_judged(m, a, estimate, method, n, depth)
+    step::step_judged(Grid { m, a }, estimate, method, n, depth)
 }
 
 #[unsafe(no_mangle)]

@@ -2,5 +2,4 @@ pub mod Value
 pub mod Scaled
 pub mod Range
 pub mod CodeTests
-pub mod Made
 pub mod Rounding

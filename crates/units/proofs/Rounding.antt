@@ -3,26 +3,27 @@
 use Rattle.std.proofs.Common.{◌≡◌, ℕ, ◌*◌, ◌<◌, ◌≤◌, false, T, [], ◌∷◌, subst, le_of_eq, le_antisymm, arith, lit≤}
 use lib.Ieee.{Float, binary64, mul, fits}
 use lib.Ieee.Positive.{den, den_pos}
+use Rattle.std.specs.Prelude.{Ok}
 use Rattle.whole.specs.Round.{down, up}
 use Rattle.whole.proofs.Round.{down_le, lt-down, le_up, up_lt, down-le-up, up_whole, up-le_next}
 use Rattle.grid.specs.Grid.{T_units}
-use Rattle.grid.specs.Codes.{Code, bad_estimate}
-use Rattle.grid.proofs.FirstCode.{passed}
+use Rattle.grid.specs.declared.codes.Refusal.{Refusal}
+use Rattle.grid.specs.declared.codes.Refusal.TheVariants.{BadEstimate}
+use Rattle.grid.proofs.FirstCode.{made}
 use Rattle.units.specs.Units.{product, floor_and_ceiling, range_check, estimate_check, coded_estimate}
 use Rattle.units.specs.Exact.{radian, Value, RoundedUpTo, Rounded}
 use Rattle.units.specs.Limits.{UnitsUpTo, UnitsIn}
-use Rattle.units.specs.declared.CodedUnits.{CodedUnits}
+use Rattle.units.specs.declared.Units.{Units}
 use Rattle.units.proofs.Range.{passed_in_range, floor_fits, ceiling_fits, product_value}
-use Rattle.units.proofs.Made.{estimates}
 
 -- any number up to its limit
-pub range_fits : (x : Float) (limit : ℕ) (code : Code) → (range_check x limit code).fails ≡ false → UnitsUpTo limit (floor_and_ceiling x)
+pub range_fits : (x : Float) (limit : ℕ) (code : Refusal) → (range_check x limit code).fails ≡ false → UnitsUpTo limit (floor_and_ceiling x)
 range_fits x limit code h =
     let r = passed_in_range limit x h in
     record { floor = floor_fits r; ceiling = ceiling_fits r; next = up-le_next (product x) (den x) (den_pos x) }
 
 pub estimate_fits : (x : Float) → (estimate_check x).fails ≡ false → UnitsIn (floor_and_ceiling x)
-estimate_fits x = range_fits x T_units bad_estimate
+estimate_fits x = range_fits x T_units BadEstimate
 
 rounded : (limit a d : ℕ) → 0 < d → up a d ≤ limit → RoundedUpTo limit a d (down a d) (up a d)
 rounded limit a d D h =
@@ -39,22 +40,22 @@ rounded limit a d D h =
       limit = h;
     }
 
-pub range_rounded : (x : Float) (limit : ℕ) (code : Code) → (range_check x limit code).fails ≡ false
+pub range_rounded : (x : Float) (limit : ℕ) (code : Refusal) → (range_check x limit code).fails ≡ false
     → RoundedUpTo limit (product x) (den x) (floor_and_ceiling x).floor (floor_and_ceiling x).ceiling
 range_rounded x limit code h = rounded limit (product x) (den x) (den_pos x) (range_fits x limit code h).ceiling
 
 pub passed_rounded : (x : Float) → (estimate_check x).fails ≡ false
     → Rounded (product x) (den x) (floor_and_ceiling x).floor (floor_and_ceiling x).ceiling
-passed_rounded x = range_rounded x T_units bad_estimate
+passed_rounded x = range_rounded x T_units BadEstimate
 
--- ---- whatever is answered with code 0
+-- ---- whatever is made
 
-module _ (x : Float) (r : CodedUnits) (e : r ≡ coded_estimate x) (z : r.code ≡ 0) where
+module _ (x : Float) (u : Units) (e : coded_estimate x ≡ Ok u) where
   pub made_passed : (estimate_check x).fails ≡ false
-  made_passed = (passed (estimate_check x ∷ []) tt r.code ((estimates x).says r e).code_is z).0
+  made_passed = (made (floor_and_ceiling x) (estimate_check x ∷ []) e).0.0
 
   pub made_exact : T (fits binary64 x) → Value (mul binary64 x radian) (product x) (den x)
   made_exact t = product_value T_units x (lit≤ tt) t (passed_in_range T_units x made_passed)
 
-  pub made_rounded : Rounded (product x) (den x) r.units.floor r.units.ceiling
-  made_rounded = rw (((estimates x).says r e).made z) (passed_rounded x made_passed)
+  pub made_rounded : Rounded (product x) (den x) u.floor u.ceiling
+  made_rounded = rw ((made (floor_and_ceiling x) (estimate_check x ∷ []) e).1) (passed_rounded x made_passed)

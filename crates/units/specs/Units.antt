@@ -1,13 +1,14 @@
 -- From a binary64 number to whole units, R41 and R60, or the code of one that is off range, R5.
-use Rattle.std.specs.Prelude.{ℕ, ◌*◌, Bool, true, false, cond, ◌&&◌, [], ◌∷◌, nat_lt, Float}
+use Rattle.std.specs.Prelude.{ℕ, ◌*◌, Bool, true, false, cond, ◌&&◌, [], ◌∷◌, nat_lt, Float, Result, Ok, Err}
 use Rattle.std.specs.Float.{nan, inf, fin}
 use Rattle.std.specs.Float.Ieee.{neg}
 use Rattle.std.specs.Float.Ieee.Positive.{num, den}
 use Rattle.whole.specs.Round.{down, up}
 use Rattle.grid.specs.Grid.{one, T_units}
-use Rattle.grid.specs.Codes.{Code, Check, number, done, or, checked, bad_estimate}
+use Rattle.grid.specs.Codes.{Check, or, allowed}
+use Rattle.grid.specs.declared.codes.Refusal.{Refusal}
+use Rattle.grid.specs.declared.codes.Refusal.TheVariants.{BadEstimate}
 use Rattle.units.specs.declared.Units.{Units}
-use Rattle.units.specs.declared.CodedUnits.{CodedUnits}
 
 -- R59: a double, or on the mirror its negative
 abbrev pub mirror_double : Bool → Float → Float
@@ -34,26 +35,18 @@ off_range limit nan = true
 off_range limit (inf s) = true
 off_range limit (fin s m exp) = or (s && nat_lt 0 m) (nat_lt (limit * den (fin s m exp)) (product (fin s m exp)))
 
--- R41: f and c beside a code
-abbrev pub units_with : ℕ → Units → CodedUnits
-units_with code u = record { code = code; units = u }
-
--- R7: zeros beside a code
-abbrev pub zeros_with : ℕ → CodedUnits
-zeros_with code = units_with code (record { floor = 0; ceiling = 0 })
-
--- R5, R41: f and c of a number, or the code that it has where it is off range
-abbrev pub coded_units : Float → ℕ → ℕ → CodedUnits
-coded_units x limit code = cond (off_range limit x) (zeros_with code) (units_with (number done) (floor_and_ceiling x))
+-- R5, R41: f and c of a number, or why there are none where it is off range
+abbrev pub coded_units : {R : Type 0} → Float → ℕ → R → Result Units R
+coded_units x limit refusal = cond (off_range limit x) (Err refusal) (Ok (floor_and_ceiling x))
 
 -- R5: a number off its range
-abbrev pub range_check : Float → ℕ → Code → Check
+abbrev pub range_check : Float → ℕ → Refusal → Check
 range_check x limit code = record { fails = off_range limit x; code = code }
 
 -- R5: code 4, an estimate beyond T
 abbrev pub estimate_check : Float → Check
-estimate_check x = range_check x T_units bad_estimate
+estimate_check x = range_check x T_units BadEstimate
 
 -- R41: f and c of an estimate, or code 4
-abbrev pub coded_estimate : Float → CodedUnits
-coded_estimate x = checked (estimate_check x ∷ []) zeros_with (units_with (number done) (floor_and_ceiling x))
+abbrev pub coded_estimate : Float → Result Units Refusal
+coded_estimate x = allowed (estimate_check x ∷ []) (floor_and_ceiling x)

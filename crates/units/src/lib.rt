@@ -2,22 +2,15 @@
 #![tactic(auto)]
 
 ghost use Rattle.std.specs.Prelude.{◌≡◌};
-ghost use Rattle.units.specs.Units.{mirror_double, coded_units};
+ghost use Rattle.units.specs.Units.{mirror_double, is_below_zero, coded_units};
 
-use grid::{Eccentricity, codes};
+use grid::Eccentricity;
 
 // A double in units, rounded down and rounded up.
 #[derive(Clone, Copy)]
 pub struct Units {
     pub floor: u64,
     pub ceiling: u64,
-}
-
-// A code, and with code 0 the units.
-#[derive(Clone, Copy)]
-pub struct CodedUnits {
-    pub code: u32,
-    pub units: Units,
 }
 
 // 2^28, the units in one radian.
@@ -30,10 +23,17 @@ pub fn mirror(value: f64, mirrored: bool) -> f64
     if mirrored { -value } else { value }
 }
 
-// The value in units where it is 0 to the limit, else the code. A NaN fails every test, and -0.0 passes as 0 does. The
+// R60: whether a double is below 0: neither zero is, nor a NaN.
+pub fn is_below_zero(value: f64) -> bool
+    ensures { result ≡ is_below_zero value }
+{
+    value < 0.0
+}
+
+// The value in units where it is 0 to the limit, else the refusal. A NaN fails every test, and -0.0 passes as 0 does. The
 // product is exact, or it overflows to an infinity, which no limit reaches.
-pub fn in_units(value: f64, limit: u32, code: u32) -> CodedUnits
-    ensures { result ≡ coded_units value limit code }
+pub fn in_units<R: Copy>(value: f64, limit: u32, refusal: R) -> Result<Units, R>
+    ensures { result ≡ coded_units value limit refusal }
 {
     if value >= 0.0 {
         let product = value * RADIAN;
@@ -44,18 +44,8 @@ pub fn in_units(value: f64, limit: u32, code: u32) -> CodedUnits
             } else {
                 floor
             };
-            let units = Units { floor, ceiling };
-            return CodedUnits {
-                code: codes::DONE,
-                units,
-            };
+            return Ok(Units { floor, ceiling });
         }
     }
-    CodedUnits {
-        code,
-        units: Units {
-            floor: 0,
-            ceiling: 0,
-        },
-    }
+    Err(refusal)
 }

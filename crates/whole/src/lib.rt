@@ -10,19 +10,19 @@ pub fn signed(z: i64, plus: bool) -> i64
     requires { Roomy z }
     ensures { result ≡ signed_by plus z }
 {
-    if plus { z } else { 0 - z }
+    if plus { z } else { -z }
 }
 
 // Whether z is below 0.
 pub fn negative(z: i32) -> bool
     ensures { result ≡ negative z }
 {
-    z < 0
+    z.is_negative()
 }
 
-// How far z is from 0. Taken in 64 bits, since the least number has a size that no i32 holds.
+// How far z is from 0. Unsigned, since the least number has a size that no i32 holds.
 pub fn size(z: i32) -> u32
     ensures { result ≡ nat_abs z }
 {
-    signed(z as i64, !negative(z)) as u32
+    z.unsigned_abs()
 }

@@ -1,13 +1,14 @@
--- `claims::judge_records`: the answers buffer is as it was, with the answers of the records passed written from its start. The
--- measure is the number of records left.
-use Rattle.std.proofs.Common.{◌≡◌, ◌-◌, ◌*◌, ◌≤◌, length}
-use Rattle.claims.specs.Batch.{written}
+-- `claims::judge_records`: the records passed are answered, and those left lie behind them.
+use Rattle.std.proofs.Common.{◌≡◌}
+use Rattle.std.specs.Iterator.Adapters.{enumerate_source, enumerate_count}
+use Rattle.std.specs.Slice.Iter.{chunks_exact_rest, chunks_exact_size}
+use Rattle.claims.proofs.CodeBatch.{Answered}
 use Rattle.claims.proofs.judge_records.Given as goal
 
 abbrev pub invariant-loop-i : goal.invariant-loop-i
-invariant-loop-i l =
-    (l.i ≤ l.count) × (l.answers ≡ written l.form l.claims l.i l.initial.answers) × (l.count ≤ length l.initial.answers)
-    × (l.count * l.form.width ≤ length l.claims)
-
-abbrev pub decreases-loop-i : goal.decreases-loop-i
-decreases-loop-i l = l.count - l.i
+invariant-loop-i l = record {
+  can_next : (goal.iterator-loop-i).can_next l.i-iterator;
+  is_finite : (goal.iterator-loop-i).is_finite l.i-iterator;
+  width : chunks_exact_size (enumerate_source l.i-iterator) ≡ l.form.width;
+  so_far : Answered l.form l.claims l.initial.answers (enumerate_count l.i-iterator) (chunks_exact_rest (enumerate_source l.i-iterator)) l.answers;
+}

@@ -4,8 +4,8 @@ use Rattle.ends.proofs.accepted_from.Goals as goal
 
 pub returns-then-upper : goal.returns-then-upper
 unfolding above_by
-returns-then-upper c = rw c.if-upper.true c.settle.ensures
+returns-then-upper c = rw (c.if-upper.true, ← c.cell.view_is) c.settle.ensures
 
 pub returns-else-upper : goal.returns-else-upper
 unfolding below_by
-returns-else-upper c = rw c.if-upper.false c.settle-else-upper.ensures
+returns-else-upper c = rw (c.if-upper.false, ← c.cell.view_is) c.settle-else-upper.ensures

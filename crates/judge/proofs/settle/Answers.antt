@@ -1,11 +1,14 @@
--- `judge::settle` meets its contract: m is read as it was given, and depth 5 is never refused.
-use mir.Facts.{to_z-of_z}
+-- `judge::settle` meets its contract: what is decided of a claim is answered, and depth 5 is never refused.
+use Rattle.std.proofs.Common.{sym, ap, ◌∙◌}
 use Rattle.grid.specs.Grid.{depths}
-use Rattle.orbit.specs.Given.{grid}
-use Rattle.judge.specs.Settle.{settle_rule}
-use Rattle.judge.specs.Decision.{settled_rule}
+use Rattle.judge.specs.Judge.{claim_of}
+use Rattle.judge.specs.Decision.{settled_answer}
+use Rattle.judge.proofs.Answered.{settled_said}
+use Rattle.judge.proofs.SettleAnswers.{settle_is}
 use Rattle.judge.proofs.settle.Goals as goal
 
 pub returns : goal.returns
-unfolding settled_rule settle_rule
-returns c = c.settle_posed.ensures (grid c.args.m c.args.a) depths (rw (to_z-of_z c.ranges.m) at c.new.ensures)
+returns g c =
+    let given = g.G.Given.given c.args.given in
+    c.from.ensures ∙ ap settled_answer c.decide_claim.ensures ∙ settled_said (claim_of given c.args.estimate c.args.n depths)
+    ∙ sym (settle_is given c.args.estimate c.args.n)

@@ -6,6 +6,6 @@ use Rattle.claims.proofs.record.word_of.Goals as goal
 pub overflow_cast-result : goal.overflow_cast-result
 overflow_cast-result c =
     let a = c.args in
-    let byte = c.type_inv.claims in
-    let fits = little_fits a.claims.now (λ k. (byte k).fits) (a.start + a.field.at) a.field.bytes 32 (omega arith) in
+    let byte = c.type_inv.bytes in
+    let fits = little_fits a.bytes.now (λ k. (byte k).fits) (0 + a.field.at) a.field.bytes 32 (omega arith) in
     rw c.value_of.ensures (record { fits = fits })

@@ -8,7 +8,7 @@ use Rattle.series.proofs.CodeRange.{sine_in_range}
 use Rattle.series.proofs.CodePair.{pair_fits, paired}
 use Rattle.series.proofs.CodeWalk.{begins}
 use Rattle.cosine.specs.Cosine.{cosine}
-use Rattle.cosine.proofs.CosineTerms.{cosine_in_range}
+use Rattle.cosine.proofs.OfCosine.{cosine_in_range}
 use Rattle.cosine.proofs.lows.at.Goals as goal
 
 -- sine's walk after each pair
@@ -47,46 +47,50 @@ module _ (x : ℕ) (top : x ≤ T_units) {b : Walk} (begins_it : b ≡ begun x o
 
 pub deepen-s-requires-2 : goal.deepen-s-requires-2
 deepen-s-requires-2 c =
-    let top = c.requires.top in
+    let top = c.x.invariant in
     pair_fits sine _ (sine_in_range _ top) 1 (lit< tt) _ (sine_1 _ top c.begin.ensures c.deepen-s.ensures)
 
 pub deepen-c-requires-2 : goal.deepen-c-requires-2
 deepen-c-requires-2 c =
-    let top = c.requires.top in
+    let top = c.x.invariant in
     pair_fits cosine _ (cosine_in_range _ top) 1 (lit< tt) _ (cosine_1 _ top c.begin-2.ensures c.deepen-c.ensures)
 
 pub deepen-s-requires-3 : goal.deepen-s-requires-3
 deepen-s-requires-3 c =
-    let top = c.requires.top in
+    let top = c.x.invariant in
     pair_fits sine _ (sine_in_range _ top) 2 (lit< tt) _ (sine_2 _ top c.begin.ensures c.deepen-s.ensures c.deepen-s-2.ensures)
 
 pub deepen-c-requires-3 : goal.deepen-c-requires-3
 deepen-c-requires-3 c =
-    let top = c.requires.top in
+    let top = c.x.invariant in
     pair_fits cosine _ (cosine_in_range _ top) 2 (lit< tt) _ (cosine_2 _ top c.begin-2.ensures c.deepen-c.ensures c.deepen-c-2.ensures)
 
 pub deepen-s-requires-4 : goal.deepen-s-requires-4
 deepen-s-requires-4 c =
-    let top = c.requires.top in
+    let top = c.x.invariant in
     pair_fits sine _ (sine_in_range _ top) 3 (lit< tt) _ (sine_3 _ top c.begin.ensures c.deepen-s.ensures c.deepen-s-2.ensures c.deepen-s-3.ensures)
 
 pub deepen-c-requires-4 : goal.deepen-c-requires-4
 deepen-c-requires-4 c =
-    let top = c.requires.top in
+    let top = c.x.invariant in
     pair_fits cosine _ (cosine_in_range _ top) 3 (lit< tt) _ (cosine_3 _ top c.begin-2.ensures c.deepen-c.ensures c.deepen-c-2.ensures c.deepen-c-3.ensures)
 
 pub deepen-s-requires-5 : goal.deepen-s-requires-5
 deepen-s-requires-5 c =
-    let top = c.requires.top in
+    let top = c.x.invariant in
     pair_fits sine _ (sine_in_range _ top) 4 (lit< tt) _ (sine_4 _ top c.begin.ensures c.deepen-s.ensures c.deepen-s-2.ensures c.deepen-s-3.ensures c.deepen-s-4.ensures)
 
 pub deepen-c-requires-5 : goal.deepen-c-requires-5
 deepen-c-requires-5 c =
-    let top = c.requires.top in
+    let top = c.x.invariant in
     pair_fits cosine _ (cosine_in_range _ top) 4 (lit< tt) _ (cosine_4 _ top c.begin-2.ensures c.deepen-c.ensures c.deepen-c-2.ensures c.deepen-c-3.ensures c.deepen-c-4.ensures)
 
 pub returns : goal.returns
 unfolding best_low
 returns c =
-    let top = c.requires.top in
-    ap₂ (λ (s t : Walk). record { sine = s.greatest; cosine = t.greatest }) (sine_5 _ top c.begin.ensures c.deepen-s.ensures c.deepen-s-2.ensures c.deepen-s-3.ensures c.deepen-s-4.ensures c.deepen-s-5.ensures) (cosine_5 _ top c.begin-2.ensures c.deepen-c.ensures c.deepen-c-2.ensures c.deepen-c-3.ensures c.deepen-c-4.ensures c.deepen-c-5.ensures)
+    let top = c.x.invariant in
+    rw (← c.x.view_is)
+    (ap₂ (λ (s t : Walk). record { sine = s.greatest; cosine = t.greatest })
+    (sine_5 _ top c.begin.ensures c.deepen-s.ensures c.deepen-s-2.ensures c.deepen-s-3.ensures c.deepen-s-4.ensures c.deepen-s-5.ensures)
+    (cosine_5 _ top c.begin-2.ensures c.deepen-c.ensures c.deepen-c-2.ensures c.deepen-c-3.ensures c.deepen-c-4.ensures
+    c.deepen-c-5.ensures))
