@@ -9,36 +9,18 @@
 `file:` holds for the pairs after it. `at:` is ours, and rt passes it over:
 the file of the crate in which the first refusal has to stand, and the name of
 what is refused there; or a file or a folder alone. With a file of src/ the
-name is a function's, whose proof may stand in files of its own. An edit of one
-function's body needs none: there it is the function itself.
+name is a function's (`DoublesGiven::pose`, `Doubles::pose` or `pose`), whose
+proof may stand in files of its own. An edit of one function's body needs none:
+there it is the function itself.
 """
-import re
 from dataclasses import dataclass
 from pathlib import Path
 
-FUNCTION = re.compile(
-    r'( *)(?:pub(?:\(\w+\))? )?(?:unsafe )?(?:extern "C" )?fn (\w+)')
-TYPE = re.compile(r"impl(?:<[^>]*>)? (?:.* for )?(\w+)")
+from source import functions_of
 
 
 class BadEdit(Exception):
     """An edit that could show nothing, and why."""
-
-
-@dataclass(frozen=True)
-class Function:
-    """A function of the source: where it stands, its lines from 0 and past
-    the last, and the first line of its body."""
-    name: str
-    file: str
-    first: int
-    body: int
-    end: int
-
-    @property
-    def proof(self):
-        """The folder below which its proof stands."""
-        return "proofs/" + self.name.replace("::", "/")
 
 
 @dataclass(frozen=True)
@@ -77,41 +59,6 @@ def of_crate(folder, place="edits"):
     """The edits of a crate's folder, and where each stands."""
     return {read(folder.name, path): path
             for path in sorted((folder / place).glob("*.edit"))}
-
-
-def opening(lines, at, margin):
-    """The line, from that of a function on, that opens its body; none where
-    it has none, or one that stands on a line with the rest."""
-    for n in range(at, len(lines)):
-        line = lines[n]
-        if line == margin + "{" or line.endswith(" {") and (
-                n == at or line.startswith(margin + ")")):
-            return n
-        if line.endswith(";") or n == at and line.endswith("}"):
-            return None
-    return None
-
-
-def functions(file, text):
-    """The functions of a source file, each under its name in the crate."""
-    lines = text.split("\n")
-    module = [] if Path(file).stem in ("lib", "main") else [Path(file).stem]
-    found, owner = [], []
-    for at, line in enumerate(lines):
-        if not line.startswith(" ") and line:
-            named = TYPE.match(line)
-            owner = [named[1]] if named else []
-        start = FUNCTION.match(line)
-        body = opening(lines, at, start[1]) if start else None
-        if body is not None:
-            margin = start[1]
-            end = lines.index(margin + "}", body)
-            path = module + (owner if margin else []) + [start[2]]
-            first = at
-            while first and lines[first - 1].startswith(f"{margin}#["):
-                first -= 1
-            found.append(Function("::".join(path), file, first, body + 1, end))
-    return found
 
 
 def replacement(folder, file, old, new):
@@ -160,12 +107,6 @@ def apply(folder, found):
         (folder / file).write_text(text)
 
 
-def functions_of(folder):
-    """The functions of a crate's source."""
-    return [f for path in sorted((folder / "src").rglob("*.rt"))
-            for f in functions(str(path.relative_to(folder)), path.read_text())]
-
-
 def body_of(edit, folder):
     """The function of the unedited crate whose body the edit changes, where
     it changes one body and nothing else. An edit moves no line."""
@@ -185,6 +126,6 @@ def function_of(edit, folder):
     if not edit.at:
         return body_of(edit, folder)
     file, _, name = edit.at.partition(" ")
-    named = [f for f in functions_of(folder) if f.file == file
-             and name in (f.name, f.name.rpartition("::")[2])]
+    named = [f for f in functions_of(folder)
+             if f.file == file and f.called(name)]
     return named[0] if len(named) == 1 else None

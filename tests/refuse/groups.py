@@ -9,6 +9,7 @@ is refused in rests on one that another edit changes.
 """
 import edits as reading
 from declared import Rests
+from source import functions_of
 
 # As many at the most together: more would keep one worker busy at the end.
 MOST = 8
@@ -44,7 +45,7 @@ def of_definitions(folder, edits):
 
 def of_crate(folder, edits):
     """One crate's edits in groups, those alone too."""
-    grouping = of_bodies if reading.functions_of(folder) else of_definitions
+    grouping = of_bodies if functions_of(folder) else of_definitions
     found = grouping(folder, edits)
     grouped = {edit for group in found for edit in group}
     return found + [[edit] for edit in edits if edit not in grouped]

@@ -8,12 +8,9 @@ that the prover now asks for, and tried again. Nothing else of it changes.
 import difflib
 import re
 
-FIELD = re.compile(
-    r"(?:\./)?(proofs/\S+?):\d+:\d+: error: .* has no field `([^`]+)` "
-    r"\(nearest: \.([^\s,)]+)")
-GOAL = re.compile(
-    r"(?:\./)?(proofs/\S+?):\d+:\d+: error: .* has no `([^`]+)` that can be "
-    r"named from here")
+GONE = re.compile(
+    "has no (?:field `([^`]+)`|`([^`]+)` that can be named from here)")
+NEAREST = re.compile(r"\(nearest: \.([^\s,)]+)")
 ASKS = re.compile(r"help: `\w+` has no `([^`]+)`; rattle asks for (.*)")
 OFFERS = re.compile(r"\((?:names in it that begin alike:|did you mean) ([^)]*)\)")
 # A proof that still does not fit then is left as it is.
@@ -29,9 +26,9 @@ def asked(text):
             for said in ASKS.finditer(text)}
 
 
-def offered(line):
+def offered(text):
     """Names that the prover has in the place of the one that is gone."""
-    said = OFFERS.search(line)
+    said = OFFERS.search(text)
     return re.findall("`([^`]+)`", said[1]) if said else []
 
 
@@ -39,18 +36,19 @@ def whole(name):
     return re.compile(rf"(?<![\w'-]){re.escape(name)}(?![\w'-])")
 
 
-def renamed(text, folder):
+def renamed(outcome, folder):
     """By file, the names that have gone, each with the nearest there is that
     is like it, but for one that another has taken or that the file has."""
-    wanted, found = asked(text), {}
-    for line in text.splitlines():
-        said = FIELD.match(line) or GOAL.match(line)
-        if not said:
+    wanted, found = asked(outcome.text), {}
+    for refusal in outcome.refusals:
+        said = GONE.search(refusal.text)
+        if not said or not refusal.unfit:
             continue
-        file, old, *near = said.groups()
-        names = found.setdefault(file, {})
-        proof = (folder / file).read_text()
-        free = [name for name in near or wanted.get(old) or offered(line)
+        old, near = said[1] or said[2], NEAREST.findall(refusal.text)
+        names = found.setdefault(refusal.path, {})
+        proof = (folder / refusal.path).read_text()
+        free = [name
+                for name in near or wanted.get(old) or offered(refusal.text)
                 if name not in names.values()
                 and not whole(name).search(proof)]
         names |= {old: new for new in difflib.get_close_matches(
@@ -73,7 +71,7 @@ def check(prove, crate, folder, incremental):
     proofs were given other names for it."""
     outcome, mended = prove.check(crate, folder, incremental), False
     for _ in range(MOST):
-        names = renamed(outcome.text, folder) if outcome.refused else {}
+        names = renamed(outcome, folder) if outcome.refused else {}
         if not [rename(folder / file, pairs) for file, pairs in names.items()
                 ].count(True):
             break

@@ -15,7 +15,8 @@ ERROR = re.compile(r"(\S+?):(\d+):(\d+): error: (.*)")
 GOAL = "it is not proved that "
 LEFT = re.compile(rf"note: (\S+?):(\d+):(\d+): ({GOAL}.*)")
 COUNT = re.compile(r"^crate \S+: modules loaded=(\d+) checked=(\d+)", re.M)
-WAITS = "was not admitted"
+# What is said of declarations that only wait for another one.
+WAITS = re.compile(r"\d+ declarations? that depends? on |.*was not admitted")
 # A check that takes longer has come to nothing.
 SECONDS = 900
 # What is said of a name that the edit took away.
@@ -23,6 +24,14 @@ UNNAMED = re.compile("has no field|is not in scope|has no `")
 # What is said of an edited text that is none.
 UNREAD = re.compile("is not in scope|has no field|is no name|operand is missing|"
                     "expected the end|cannot continue")
+
+
+def says_nothing(text):
+    """Whether a message does not come to what it has to say. rt shows the
+    first line, and cuts it: there may be no more than of which record or
+    module the prover goes on to say that it does not have a name."""
+    said = re.sub(r"`[^`]*(`|$)|\(nearest.*|[: ]", "", text)
+    return "record".startswith(said) or "module".startswith(said)
 
 
 @dataclass(frozen=True)
@@ -41,7 +50,8 @@ class Refusal:
     def unfit(self):
         """Whether only the proof file does not fit the code any more."""
         return (self.path.startswith("proofs/")
-                and UNNAMED.search(self.text) is not None)
+                and (UNNAMED.search(self.text) is not None
+                     or says_nothing(self.text)))
 
     @property
     def unread(self):
@@ -77,12 +87,24 @@ class Outcome:
                 and int(counts[2]) == 0)
 
 
+def messages(text):
+    """The messages of a check's output, each on one line: the prover breaks a
+    long one, and goes on behind two spaces."""
+    found = [""]
+    for line in text.splitlines():
+        if line.startswith("  "):
+            found[-1] += f" {line.strip()}"
+        else:
+            found.append(line)
+    return found
+
+
 def refusals(text):
     """The refusals of a check's output, in its order."""
     found = []
-    for line in text.splitlines():
-        said = ERROR.match(line) or LEFT.match(line)
-        if said and WAITS not in said[4]:
+    for message in messages(text):
+        said = ERROR.match(message) or LEFT.match(message)
+        if said and not WAITS.match(said[4]):
             path = said[1].removeprefix("./")
             found.append(Refusal(path, int(said[2]), int(said[3]), said[4]))
     return tuple(found)

@@ -100,11 +100,9 @@ class Run:
 
     def count(self, group, given, seconds):
         """Takes the answers to a group. Those edits to be tried alone."""
-        if len(group) > 1:
-            kept = [a for a in given if not a.fault]
-            lost = [e for e in group if e not in {a.edit for a in kept}]
-        else:
-            kept, lost = given, []
+        kept = [a for a in given if len(group) == 1 or not a.fault]
+        lost = [e for e in group if e not in {a.edit for a in kept}]
+        faults = {a.edit: a.fault for a in given}
         self.tried += len(kept)
         self.again += len(lost)
         for answer in kept:
@@ -115,6 +113,9 @@ class Run:
                 self.mended += answer.mended
                 say(f"{answer.edit.name}: refused at {answer.refusal}" +
                     (", by proofs with its names" if answer.mended else ""))
+        for edit in lost:
+            say(f"{edit.name}: again, alone: beside others "
+                f"{faults.get(edit, 'it was not tried')}")
         say(f"{self.tried} of {len(self.paths)}; {len(group)} of "
             f"{group[0].crate} together, {seconds:.1f} s")
         return lost

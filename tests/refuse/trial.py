@@ -117,17 +117,18 @@ def make(group, folder):
     return changed, None
 
 
-def strays(changed, outcome):
-    """Whether edits of bodies alone are refused in a function that none of
-    them changes, so that the functions were not as apart as they should be."""
-    return all(changed.values()) and not all(
-        any(stands_in("", function, refusal) for function in changed.values())
-        for refusal in outcome.refusals)
+def stray(changed, outcome):
+    """Where edits of bodies alone are refused in a function that none of them
+    changes, so that the functions were not as apart as they should be."""
+    if not all(changed.values()):
+        return None
+    return next((refusal for refusal in outcome.refusals if not any(
+        stands_in("", function, refusal) for function in changed.values())), None)
 
 
 def attempt(prove, group, logs):
-    """Tries edits of one crate together: an answer for each, for one that
-    can't be made, or none where beside each other they show nothing."""
+    """Tries edits of one crate together: an answer for each, or for one that
+    can't be made."""
     crate = group[0].crate
     with room() as place:
         folder, incremental = prove.copy(crate, place)
@@ -143,8 +144,10 @@ def attempt(prove, group, logs):
         log = logs / f"{edit.name}.log"
         log.parent.mkdir(parents=True, exist_ok=True)
         log.write_text(outcome.text)
-    if len(group) > 1 and strays(changed, outcome):
-        return []
+    strayed = stray(changed, outcome) if len(group) > 1 else None
+    if strayed:
+        return [Answer(edit, fault=f"something is refused at {strayed}")
+                for edit in group]
     return [replace(own_refusal(edit, changed[edit], outcome, len(group) == 1),
                     mended=mended)
             for edit in group]

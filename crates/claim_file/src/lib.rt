@@ -6,13 +6,14 @@ ghost use Rattle.std.specs.Io.{ReadsAtMost};
 ghost use Rattle.std.specs.Io.KnownBytes.{Consumes, IsAtEnd, Appends};
 ghost use Rattle.claim_file.specs.File.{output, output_in};
 
+use claims::form::TWENTY;
 use std::io;
 use std::io::{Input, Print, Read, Write};
 
 // The longest input: its claims and its bytes.
 const MOST_CLAIMS: usize = 3_276;
 
-const MOST_BYTES: usize = MOST_CLAIMS * claims::form::TWENTY.width;
+const MOST_BYTES: usize = MOST_CLAIMS * TWENTY.width;
 
 // Puts what is written for an input at the start of `answers`, and returns how many bytes that is.
 #[tactic(auto, using(crate::proofs::Output::longer))]
@@ -25,8 +26,7 @@ pub fn answer_file(input: &[u8], answers: &mut [u8; MOST_CLAIMS]) -> usize
     if input.len() > MOST_BYTES {
         return 0;
     }
-    let batch = claims::judge_claims(input, answers);
-    batch.count as usize
+    claims::judge_records(TWENTY, input, answers).unwrap_or(0)
 }
 
 // Reads until `input` is full or the reader has no more bytes, and returns how many stand at the start of `input`.

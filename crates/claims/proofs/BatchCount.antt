@@ -1,13 +1,14 @@
 -- R51: what a batch returns in each of its cases, and its count. Assumes nothing.
-use mathlib.Core.Path.{◌≡◌, refl, sym, ap, ◌∙◌}
+use mathlib.Core.Path.{◌≡◌, refl, sym, ap}
 use Prim.Native.Nat.{ℕ, ◌*◌, ◌%◌, ◌/◌, ◌≤◌, zero-le}
 use native.Mathlib.Nat.{div-add-mod'}
 use native.Mathlib.Omega.{arith}
 use borrow.Author.Tests.{eq-eqb, ne_eqb, le-ltb, eqb-true, ltb-false, not-false}
-use Rattle.std.specs.Prelude.{Result, Ok}
+use Rattle.std.specs.Prelude.{Result, Ok, Err}
+use Rattle.std.specs.Result.{result_unwrap_or}
 use Rattle.grid.specs.Refuses.{Refuses}
 use Rattle.grid.specs.declared.codes.Refusal.{Refusal}
-use Rattle.grid.proofs.FirstCode.{made, answers}
+use Rattle.grid.proofs.FirstCode.{made, answered}
 use Rattle.grid.proofs.Refuses.{makes}
 use Rattle.grid.proofs.Outcomes.{of_checked}
 use Rattle.claims.specs.Form.{Form}
@@ -25,11 +26,15 @@ module _ (form : Form) (bytes room : ℕ) where
   rule_done e h = simp (eq-eqb _ _ e, le-ltb _ _ h)
 
   -- what the code returns of it is the batch's answer
-  pub returned : {r : Result ℕ Refusal} → r ≡ coded_count form bytes room → batch_answer r ≡ batch_rule form bytes room
+  pub returned : {r : Result ℕ Refusal} {said : Batch} → said ≡ batch_answer r → r ≡ coded_count form bytes room → said ≡ batch_rule form bytes room
   unfolding batch_rule
-  returned e =
-      ap batch_answer e
-      ∙ answers (λ k. batch_with k 0) (batch_with 0) (bytes / form.width) (batch_checks form bytes room)
+  returned said counted =
+      answered (λ k. batch_with k 0) (batch_with 0) (bytes / form.width) (batch_checks form bytes room) said counted
+
+  -- and of it the count, none where it is refused
+  pub counted_is : (r : Result ℕ Refusal) → r ≡ coded_count form bytes room → result_unwrap_or r 0 ≡ (batch_rule form bytes room).count
+  counted_is (Ok n) e = ap (λ (b : Batch). b.count) (returned refl e)
+  counted_is (Err x) e = ap (λ (b : Batch). b.count) (returned refl e)
 
   -- where claims are counted, each has a place for its answer
   pub count_is : {n : ℕ} → Ok n ≡ coded_count form bytes room → (n ≡ bytes / form.width) × (bytes / form.width ≤ room)

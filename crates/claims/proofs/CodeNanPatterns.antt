@@ -4,7 +4,7 @@ use mathlib.Core.Bool.{Bool, true, not}
 use Prim.Native.Nat.{ℕ, ◌*◌, ◌%◌, ◌≤◌, ◌<◌}
 use borrow.Author.Tests.{lt-ltb, le-ltb}
 use lib.Dec.{T}
-use lib.Ieee.{Float, nan, inf, fin, binary64, of_bits, is_nan, nan_bits, div, ones, hid, top}
+use lib.Ieee.{Float, nan, inf, fin, binary64, of_bits, is_nan, nan_bits, ones, hid, top}
 use lib.Ieee.Bits.{nan_bits_is, nan_bits_above}
 
 only_nan : (x : Float) → is_nan x ≡ true → x ≡ nan
@@ -22,6 +22,7 @@ pub no_nan_pattern : (n : ℕ) → n % top binary64 ≤ ones binary64 * hid bina
 no_nan_pattern n h =
     subst (λ (b : Bool). T (not b)) (sym (nan_bits_above binary64 n ∙ le-ltb _ _ h)) tt
 
-pub zero_by_zero : div binary64 (of_bits binary64 0) (of_bits binary64 0) ≡ nan
-unfolding div of_bits
-zero_by_zero = refl
+-- the library's NaN, by its pattern
+pub library_nan : of_bits binary64 9221120237041090560 ≡ nan
+unfolding of_bits
+library_nan = refl

@@ -8,13 +8,14 @@ ghost use Rattle.claims.specs.Batch.{coded_count, batch_answer, batch_rule, answ
 use form::Form;
 use grid::codes;
 use grid::codes::Refusal;
+use record::Record;
 
 pub mod form;
 mod record;
 
 // What a batch returns: its code, and how many claims were answered.
 #[repr(C)]
-#[derive(Clone, Copy)]
+#[derive(Clone, Copy, Default)]
 pub struct Batch {
     pub code: u32,
     pub count: u64,
@@ -31,7 +32,7 @@ impl From<Result<usize, Refusal>> for Batch {
             },
             Err(refusal) => Batch {
                 code: refusal.code(),
-                count: 0,
+                ..Batch::default()
             },
         }
     }
@@ -55,13 +56,13 @@ fn batch_of(form: Form, bytes: usize, room: usize) -> Result<usize, Refusal>
 
 // Judges the records of `claims`, all of one form, writes one byte for each to the start of `answers`, and returns how many: none
 // is written where the batch is refused.
-fn judge_records(form: Form, claims: &[u8], answers: &mut [u8]) -> Result<usize, Refusal>
+pub fn judge_records(form: Form, claims: &[u8], answers: &mut [u8]) -> Result<usize, Refusal>
     ensures value { result ≡ coded_count form (length claims.now) (length answers.old) }
     ensures answers_after { answers.new ≡ answers_after form claims.now answers.old }
 {
     let count = batch_of(form, claims.len(), answers.len())?;
     for (i, bytes) in claims.chunks_exact(form.width).enumerate() {
-        answers[i] = record::answer_byte(form, bytes);
+        answers[i] = Record { form, bytes }.answer_byte();
     }
     Ok(count)
 }

@@ -4,7 +4,7 @@
 ghost use Rattle.std.specs.Prelude.{◌≡◌};
 ghost use Rattle.cosine.specs.Cosine.{cosine, cosine_rule};
 
-use grid::{Angle, Depth};
+use grid::Angle;
 use series::{Bounds, Series, Walk};
 
 pub mod lows;
@@ -17,22 +17,14 @@ impl Series for CosineTerms {
     ghost series = { cosine };
 
     fn begin(x: Angle) -> Walk {
-        Walk::begin(x.units, grid::ONE)
+        Walk::begin(x, grid::ONE)
     }
 
-    // Each pair's divisors stand in its own arm, so that the quotients are products.
+    // R71: (2k - 1) 2k is 1 2, 3 4, ..
+    #[inline(always)]
+    #[tactic(auto, using(crate::proofs::OfCosine::further_fits, crate::proofs::OfCosine::further_is))]
     fn further(w: Walk) -> Walk {
-        match w.pairs {
-            0 => w.deepen(2, 12),
-            1 => w.deepen(30, 56),
-            2 => w.deepen(90, 132),
-            3 => w.deepen(182, 240),
-            _ => w.deepen(306, 380),
-        }
-    }
-
-    fn answer(x: Angle, d: Depth) -> Bounds {
-        series::unbiased_bounds(Self::bounds_at(x, d))
+        w.further::<1>()
     }
 }
 

@@ -6,7 +6,7 @@ use native.Mathlib.Omega.{arith}
 use native.Mathlib.Nat.{lt_of_not-le, mul-le-mul_right}
 use native.Mathlib.Decide.{dec_le}
 use Rattle.units.specs.declared.Units.{Units}
-use Rattle.enclosure.specs.Halving.{Found}
+use Rattle.enclosure.specs.declared.Found.{Found}
 use Rattle.distance.specs.Distance.{least_off, most_off}
 
 module _ (r : Found) (u : Units) (ends : r.a ≤ r.b) (rounded : u.floor ≤ u.ceiling) where

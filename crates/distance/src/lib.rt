@@ -11,9 +11,16 @@ use grid::{Angle, Depth, codes};
 use orbit::pose::{Given, Problem};
 use units::Units;
 
+// R67: how far away from the root, in units: this much or more, and this much or less.
+#[derive(Clone, Copy, Debug, PartialEq, Eq)]
+pub struct Away {
+    pub least: u32,
+    pub most: u32,
+}
+
 // A code, and with code 0 the least and the greatest distance from the root, in units.
 #[repr(C)]
-#[derive(Clone, Copy)]
+#[derive(Clone, Copy, Default)]
 pub struct Off {
     pub code: u32,
     pub least: u32,
@@ -21,16 +28,15 @@ pub struct Off {
 }
 
 // R67: the distances of an estimate by the ends that were found.
-fn off_by(found: Found, u: Units) -> Off
+fn off_by(found: Found, u: Units) -> Away
     requires { UnitsIn u }
     ensures { result ≡ off_by found u }
 {
-    let a = found.a;
-    let b = found.b;
+    let a = found.a.units;
+    let b = found.b.units;
     let least = grid::step_down(a, u.ceiling).max(grid::step_down(u.floor, b));
     let most = grid::step_down(u.ceiling, a).max(grid::step_down(b, u.floor));
-    Off {
-        code: codes::DONE,
+    Away {
         least: least as u32,
         most: most as u32,
     }
@@ -38,7 +44,7 @@ fn off_by(found: Found, u: Units) -> Off
 
 // R68: the distances, or why there are none: code 1, 2, then 4. On the mirror the estimate is mirrored.
 #[tactic(auto, using(units::proofs::Rounding::estimate_fits))]
-fn posed_off<G: Given>(given: G, estimate: f64) -> Result<Off, Refusal>
+fn posed_off<G: Given>(given: G, estimate: f64) -> Result<Away, Refusal>
     ensures { result ≡ distance_known (G.given given) estimate }
 {
     let posed = given.pose()?;
@@ -52,15 +58,21 @@ fn posed_off<G: Given>(given: G, estimate: f64) -> Result<Off, Refusal>
     Ok(off_by(found, u))
 }
 
-impl From<Result<Off, Refusal>> for Off {
+impl From<Result<Away, Refusal>> for Off {
     ghost from_gives = { λ known r. r ≡ distance_answer known };
 
-    fn from(known: Result<Off, Refusal>) -> Self {
-        known.unwrap_or_else(|refusal| Off {
-            code: refusal.code(),
-            least: 0,
-            most: 0,
-        })
+    fn from(known: Result<Away, Refusal>) -> Self {
+        match known {
+            Ok(away) => Off {
+                code: codes::DONE,
+                least: away.least,
+                most: away.most,
+            },
+            Err(refusal) => Off {
+                code: refusal.code(),
+                ..Off::default()
+            },
+        }
     }
 }
 

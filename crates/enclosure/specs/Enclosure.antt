@@ -9,7 +9,8 @@ use Rattle.orbit.specs.Cell.{Cell}
 use Rattle.orbit.specs.declared.pose.Posed.{Posed}
 use Rattle.ends.specs.Ends.{lower_end, upper_end}
 use Rattle.enclosure.specs.declared.Enclosure.{Enclosure}
-use Rattle.enclosure.specs.Halving.{Found, lower_search, upper_search}
+use Rattle.enclosure.specs.declared.Found.{Found}
+use Rattle.enclosure.specs.Halving.{lower_search, upper_search}
 
 -- R5, R28: code 6, by the test of T
 abbrev pub T_check : Cell → ℕ → Check

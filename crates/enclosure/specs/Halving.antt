@@ -1,6 +1,7 @@
 -- The searches, R25 to R27, over any test `acc` of whole numbers and any top: T is an orbit's.
 use Rattle.std.specs.Prelude.{ℕ, zero, suc, ◌+◌, ◌-◌, ◌/◌, Bool, not, cond, ltb}
 use Rattle.enclosure.specs.declared.Bracket.{Bracket}
+use Rattle.enclosure.specs.declared.Found.{Found}
 
 -- R25: where a search begins
 abbrev pub widest : ℕ → Bracket
@@ -39,11 +40,6 @@ lower_search acc top = (last_bracket acc top).p
 -- the answer
 abbrev pub upper_search : (ℕ → Bool) → ℕ → ℕ
 upper_search acc top = cond (acc 0) 0 (last_bracket (λ X. not (acc X)) top).q
-
--- R26, R27: both ends
-pub record Found : Type 0 where
-  pub a : ℕ
-  pub b : ℕ
 
 -- R26, R27: both, by the tests of lower and of upper ends
 abbrev pub searched : (ℕ → Bool) → (ℕ → Bool) → ℕ → Found

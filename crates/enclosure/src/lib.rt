@@ -7,38 +7,24 @@ ghost use Rattle.enclosure.specs.Enclosure.{enclosure_known, enclosure_answer, e
 ghost use Rattle.enclosure.specs.Moves.{moves_p, enclosed_by};
 
 use ends::Tested;
-use grid::codes;
 use grid::codes::Refusal;
+use grid::{Angle, codes};
 use orbit::pose::{Given, Posed, Problem};
-use std::marker::Model;
 
 // A code, and with code 0 the two ends, in units.
 #[repr(C)]
-#[derive(Clone, Copy)]
+#[derive(Clone, Copy, Default)]
 pub struct Enclosure {
     pub code: u32,
     pub lower: i32,
     pub upper: i32,
 }
 
-// The ends that the searches find, in units, of what is posed.
+// The ends that the searches find of what is posed.
 #[derive(Clone, Copy, Debug, PartialEq, Eq)]
 pub struct Found {
-    pub a: u64,
-    pub b: u64,
-}
-
-impl Model for Found {
-    ghost use Rattle.enclosure.specs.Halving as halving;
-    ghost use Rattle.enclosure.specs.Moves as moves;
-
-    ghost Value = { halving.Found };
-
-    ghost view = { λ f. record { a = f.a; b = f.b } };
-
-    ghost invariant = { λ f. moves.EndsIn f.a f.b };
-
-    ghost inverse = { λ f. record { a = f.a; b = f.b } };
+    pub a: Angle,
+    pub b: Angle,
 }
 
 // Where a search stands.
@@ -78,7 +64,10 @@ pub fn find_ends<P: Tested>(tested: P) -> Found
     } else {
         last_bracket(tested, true).q
     };
-    Found { a, b }
+    Found {
+        a: Angle { units: a },
+        b: Angle { units: b },
+    }
 }
 
 // R28, R88: both ends, or the refusal where the top is not accepted as an upper end.
@@ -114,8 +103,7 @@ impl From<Result<Posed<Found>, Refusal>> for Enclosure {
             }
             Err(refusal) => Enclosure {
                 code: refusal.code(),
-                lower: 0,
-                upper: 0,
+                ..Enclosure::default()
             },
         }
     }

@@ -38,8 +38,8 @@ exact_apart o X Y e w p q = nltb→le Y X (not_T (ltb Y X) (λ t. clash (ltb→l
 pub apart : (c : Cell) (X Y d e : ℕ) → CellIn c → X ≤ T_units → Y ≤ T_units → d ≤ depths → e ≤ depths
     → T (lower_end c d X) → T (upper_end c e Y) → X ≤ Y
 apart c X Y d e i x y j k p q =
-    let o = orbit_at c.m.down c.a.down in
+    let o = orbit_at c.m.floor c.a.floor in
     let l = i.shapes in
     let h = i.shape in
     exact_apart o X Y (omega arith) x (below_true o X x d j ((below_corners c X (Lo X d)).0 p).0)
-    (above_true o Y y e k (lesser_mean c.m.down c.m.up c.a.down Y (Hi Y e) i.means ((above_corners c Y (Hi Y e)).0 q).0))
+    (above_true o Y y e k (lesser_mean c.m.floor c.m.ceiling c.a.floor Y (Hi Y e) i.means ((above_corners c Y (Hi Y e)).0 q).0))

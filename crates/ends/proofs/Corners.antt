@@ -24,14 +24,14 @@ use Rattle.ends.proofs.InNaturals.{below_test, above_test}
 
 module _ (c : Cell) (X : ℕ) (b : ℤ) where
   pub below_corners : T (below_by c X b)
-      ↔ T (below_at (orbit_at c.m.down c.a.down) X b) × T (below_at (orbit_at c.m.down c.a.up) X b)
+      ↔ T (below_at (orbit_at c.m.floor c.a.floor) X b) × T (below_at (orbit_at c.m.floor c.a.ceiling) X b)
   unfolding below_by below_at
-  below_corners = le-lesser (pos one *ℤ (pos X -ℤ pos c.m.down)) (pos c.a.down *ℤ b) (pos c.a.up *ℤ b)
+  below_corners = le-lesser (pos one *ℤ (pos X -ℤ pos c.m.floor)) (pos c.a.floor *ℤ b) (pos c.a.ceiling *ℤ b)
 
   pub above_corners : T (above_by c X b)
-      ↔ T (above_at (orbit_at c.m.up c.a.down) X b) × T (above_at (orbit_at c.m.up c.a.up) X b)
+      ↔ T (above_at (orbit_at c.m.ceiling c.a.floor) X b) × T (above_at (orbit_at c.m.ceiling c.a.ceiling) X b)
   unfolding above_by above_at
-  above_corners = greater-le (pos c.a.down *ℤ b) (pos c.a.up *ℤ b) (pos one *ℤ (pos X -ℤ pos c.m.up))
+  above_corners = greater-le (pos c.a.floor *ℤ b) (pos c.a.ceiling *ℤ b) (pos one *ℤ (pos X -ℤ pos c.m.ceiling))
 
 -- on the grid both corners are one
 pub below_grid : (m a X : ℕ) (b : ℤ) → below_by (grid_cell m a) X b ≡ below_at (orbit_at m a) X b

@@ -41,27 +41,27 @@ module _ (sum : Sum) (o : Exact) (X : ℕ) where
 
 -- M on the right side of a corner's
 module _ (c : Cell) (o : Exact) (i : InCell c false o) (X : ℕ) where
-  m_above : c.m.down * o.q + minus o.p ≤ plus o.p
-  m_above = let h = (le_parts (is_pos (c.m.down * o.q)) (own o.p)).0 i.m_least in omega arith
+  m_above : c.m.floor * o.q + minus o.p ≤ plus o.p
+  m_above = let h = (le_parts (is_pos (c.m.floor * o.q)) (own o.p)).0 i.m_least in omega arith
 
-  m_below : plus o.p ≤ c.m.up * o.q + minus o.p
-  m_below = let h = (le_parts (own o.p) (is_pos (c.m.up * o.q))).0 i.m_most in omega arith
+  m_below : plus o.p ≤ c.m.ceiling * o.q + minus o.p
+  m_below = let h = (le_parts (own o.p) (is_pos (c.m.ceiling * o.q))).0 i.m_most in omega arith
 
   -- R19: at any depth
   pub cell_true : (upper : Bool) → X ≤ T_units → (d : ℕ) → d ≤ depths → T (end_at upper c d X) → Meets upper (sum_of upper) o (pos X)
   cell_true true w d j t =
       let (low, high) = (above_corners c X (Hi X d)).0 t in
       let h =
-      between (one * c.m.up) (one * X) c.a.down c.a.up den10 (other sine X 10) (same sine X 10) o.r o.s
-      (above_true (orbit_at c.m.up c.a.down) X w d j low) (above_true (orbit_at c.m.up c.a.up) X w d j high)
+      between (one * c.m.ceiling) (one * X) c.a.floor c.a.ceiling den10 (other sine X 10) (same sine X 10) o.r o.s
+      (above_true (orbit_at c.m.ceiling c.a.floor) X w d j low) (above_true (orbit_at c.m.ceiling c.a.ceiling) X w d j high)
       i.a_least i.a_most in
       (le_parts (sine_parts (sum_of true) o X (S10_parts X)) (difference_parts (sum_of true) o X)).1
       (omega (arith, mul-le-mul_left o.q h, mul-le-mul_left (one * den10 * o.s) m_below))
   cell_true false w d j t =
       let (low, high) = (below_corners c X (Lo X d)).0 t in
       let h =
-      between (one * X) (one * c.m.down) c.a.down c.a.up den9 (other sine X 9) (same sine X 9) o.r o.s
-      (below_true (orbit_at c.m.down c.a.down) X w d j low) (below_true (orbit_at c.m.down c.a.up) X w d j high)
+      between (one * X) (one * c.m.floor) c.a.floor c.a.ceiling den9 (other sine X 9) (same sine X 9) o.r o.s
+      (below_true (orbit_at c.m.floor c.a.floor) X w d j low) (below_true (orbit_at c.m.floor c.a.ceiling) X w d j high)
       i.a_least i.a_most in
       (le_parts (difference_parts (sum_of false) o X) (sine_parts (sum_of false) o X (S9_parts X))).1
       (omega (arith, mul-le-mul_left o.q h, mul-le-mul_left (one * den9 * o.s) m_above))

@@ -66,7 +66,7 @@ T_never c d i j =
     let h = i.means in
     let k = i.mean in
     not_T (lower_end c d T_units)
-    (λ t. T_not_below (orbit_at c.m.down c.a.down) d (omega arith) j ((below_corners c T_units (Lo T_units d)).0 t).0)
+    (λ t. T_not_below (orbit_at c.m.floor c.a.floor) d (omega arith) j ((below_corners c T_units (Lo T_units d)).0 t).0)
 
 -- R28: from depth 4 on T is an accepted upper end
 T_above : (o : Orbit) → o.m ≤ T_units → T (above_at o T_units (Hi T_units 4))
@@ -75,7 +75,7 @@ T_above o m =
     (let h = (le_parts (own (Hi T_units 4)) (is_pos 0)).0 high_at_T in omega arith) in
     (above_test o T_units (Hi T_units 4)).1 (omega (arith, mul-le-mul_left o.a n))
 
-pub T_upper : (c : Cell) (d : ℕ) → c.m.up ≤ T_units → 4 ≤ d → T (upper_end c d T_units)
+pub T_upper : (c : Cell) (d : ℕ) → c.m.ceiling ≤ T_units → 4 ≤ d → T (upper_end c d T_units)
 T_upper c d m i =
     deeper true c T_units i ((above_corners c T_units (Hi T_units 4)).1 (T_above _ m, T_above _ m))
 

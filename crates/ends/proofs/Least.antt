@@ -10,7 +10,7 @@ use borrow.Author.Tests.{ne_eqb}
 use lib.Dec.{T, eqb, T_not, not_T}
 use Rattle.std.specs.Prelude.{Option, is_some}
 use Rattle.whole.specs.First.{first_from}
-use Rattle.whole.proofs.Bools.{passed, passes, fails}
+use Rattle.whole.proofs.Bools.{passed, passes}
 use Rattle.whole.proofs.First.{first, only}
 use Rattle.ends.specs.Least.{least_depth, depth_or_none, from_least}
 
@@ -80,22 +80,12 @@ module _ (test : ℕ → Bool) (d : ℕ) where
       by_number zero = refl
       by_number (suc k) = sym (ap not (ne_eqb (suc k) 0 (λ e. let z : ⊥ = omega arith in z)))
 
-  pub says_none : least_depth test d ≡ 0 → test d ≡ false
-  says_none e = sym (there 0 (sym e))
-
 -- ---- two tests
 
--- a test after a first one that no depth changes, which passed or failed
-pub then_least : (g : Bool) (test : ℕ → Bool) (d : ℕ) {r : ℕ} → g ≡ true → r ≡ least_depth test d → r ≡ least_depth (λ l. g && test l) d
-then_least g test d e h = h ∙ sym (ap (λ (t : Bool). least_depth (λ l. t && test l) d) e)
-
+-- a test after a first one that no depth changes, which failed
 pub else_least : (g : Bool) (test : ℕ → Bool) (d : ℕ) → g ≡ false → 0 ≡ least_depth (λ l. g && test l) d
 unfolding least_depth
 else_least g test d e = sym (ap (λ (t : Bool). least_depth (λ l. t && test l) d) e)
-
--- a test that asks for another, which the last depth fails
-pub none_by : (test other : ℕ → Bool) (d : ℕ) → (T (test d) → T (other d)) → least_depth other d ≡ 0 → 0 ≡ least_depth test d
-none_by test other d asks e = sym (none test d (sym (fails (test d) (λ t. subst T (says_none other d e) (asks t)))))
 
 -- where a test is two others, of which the one is kept by depth: they pass from the later of their least depths on
 pub later : (test one other : ℕ → Bool) → ((l : ℕ) → T (test l) ↔ T (one l) × T (other l)) → ((l k : ℕ) → l ≤ k → T (one l) → T (one k))

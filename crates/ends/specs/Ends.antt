@@ -16,11 +16,11 @@ above_at o X b = le_z (pos o.a *ℤ b) (pos one *ℤ (pos X -ℤ pos o.m))
 
 -- R17: of a cell, by the least M and the lesser product; on the grid this is `below_at`
 unfoldable pub below_by : Cell → ℕ → ℤ → Bool
-below_by c X b = le_z (pos one *ℤ (pos X -ℤ pos c.m.down)) (lesser (pos c.a.down *ℤ b) (pos c.a.up *ℤ b))
+below_by c X b = le_z (pos one *ℤ (pos X -ℤ pos c.m.floor)) (lesser (pos c.a.floor *ℤ b) (pos c.a.ceiling *ℤ b))
 
 -- R18: of a cell, by the greatest M and the greater product; on the grid this is `above_at`
 unfoldable pub above_by : Cell → ℕ → ℤ → Bool
-above_by c X b = le_z (greater (pos c.a.down *ℤ b) (pos c.a.up *ℤ b)) (pos one *ℤ (pos X -ℤ pos c.m.up))
+above_by c X b = le_z (greater (pos c.a.floor *ℤ b) (pos c.a.ceiling *ℤ b)) (pos one *ℤ (pos X -ℤ pos c.m.ceiling))
 
 -- R17, R18: either test, `true` for that of an upper end
 abbrev pub end_by : Bool → Cell → ℕ → ℤ → Bool

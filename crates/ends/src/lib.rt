@@ -4,7 +4,7 @@
 ghost use Rattle.std.specs.Prelude.{◌≡◌, ℕ, ◌≤◌, Bool, T};
 ghost use Rattle.std.proofs.Common.{rules};
 ghost use Rattle.grid.specs.Grid.{T_units};
-ghost use Rattle.ends.specs.Ends.{end_at, lower_end, upper_end};
+ghost use Rattle.ends.specs.Ends.{end_at};
 ghost use Rattle.ends.specs.Least.{from_least};
 ghost use Rattle.ends.specs.Top.{TopIn};
 ghost use Rattle.ends.specs.Entry.{end_known, end_answer, lower_rule, upper_rule};
@@ -15,41 +15,6 @@ use orbit::pose::{Given, Problem};
 use settling::{LowerSide, UpperSide};
 
 mod settling;
-
-// The least depth that accepts an end of a problem, upper or lower: by the greatest M, or the least.
-#[inline(always)]
-pub fn accepted_from(p: Problem, x: Angle, upper: bool) -> Option<u64>
-    ensures { result ≡ from_least (λ d. end_at upper p.cell d x) p.depth }
-{
-    let cell = p.cell;
-    let m = cell.m;
-    if upper {
-        settling::settle::<UpperSide>(m.up, cell.a, p.depth, x)
-    } else {
-        settling::settle::<LowerSide>(m.down, cell.a, p.depth, x)
-    }
-}
-
-// The end test of a problem, of an upper end or of a lower one.
-pub fn accepted(p: Problem, x: Angle, upper: bool) -> bool
-    ensures { result ≡ end_at upper p.cell p.depth x }
-{
-    accepted_from(p, x, upper).is_some()
-}
-
-// Whether x is an accepted lower end.
-pub fn lower(p: Problem, x: Angle) -> bool
-    ensures { result ≡ lower_end p.cell p.depth x }
-{
-    accepted(p, x, false)
-}
-
-// Whether x is an accepted upper end.
-pub fn upper(p: Problem, x: Angle) -> bool
-    ensures { result ≡ upper_end p.cell p.depth x }
-{
-    accepted(p, x, true)
-}
 
 // What has ends to be tested: a problem at each depth up to its own, or a flyby, whose tests know no depth.
 pub trait Tested: Copy {
@@ -65,12 +30,12 @@ pub trait Tested: Copy {
     const TOP: u64;
 
     // The depth asked for, which is never 0.
-    fn last_depth(self) -> u64
+    fn last_depth(self) -> u32
         ensures value { result ≡ last self }
         ensures some { 1 ≤ result };
 
     // The least depth that accepts an end; what is accepted stays so.
-    fn accepted_from(self, x: u64, upper: bool) -> Option<u64>
+    fn accepted_from(self, x: u64, upper: bool) -> Option<u32>
         requires { x ≤ TOP }
         ensures least { result ≡ from_least (λ d. test self upper d x) (last self) }
         ensures kept { (l k : ℕ) → l ≤ k → T (test self upper l x) → T (test self upper k x) };
@@ -78,7 +43,10 @@ pub trait Tested: Copy {
     // Whether the depth asked for accepts it.
     fn accepts(self, x: u64, upper: bool) -> bool
         requires { x ≤ TOP }
-        ensures { result ≡ test self upper (last self) x };
+        ensures { result ≡ test self upper (last self) x }
+    {
+        self.accepted_from(x, upper).is_some()
+    }
 
     // There is room for a search, and what it finds has a negative.
     ghost room: { TopIn TOP };
@@ -95,23 +63,27 @@ impl Tested for Problem {
 
     const TOP: u64 = grid::T;
 
-    fn last_depth(self) -> u64 {
+    fn last_depth(self) -> u32 {
         let depth = self.depth;
-        u64::from(depth.pairs)
+        depth.pairs
     }
 
-    fn accepted_from(self, units: u64, upper: bool) -> Option<u64> {
-        accepted_from(self, Angle { units }, upper)
-    }
-
-    fn accepts(self, units: u64, upper: bool) -> bool {
-        accepted(self, Angle { units }, upper)
+    // An upper end's test goes by the greatest M, a lower end's by the least.
+    #[inline(always)]
+    #[tactic(auto, using(crate::proofs::Corners::deeper))]
+    fn accepted_from(self, units: u64, upper: bool) -> Option<u32> {
+        let x = Angle { units };
+        if upper {
+            settling::settle::<UpperSide>(self, x)
+        } else {
+            settling::settle::<LowerSide>(self, x)
+        }
     }
 }
 
 // What a public end test answers: accepted is 1 or 0.
 #[repr(C)]
-#[derive(Clone, Copy)]
+#[derive(Clone, Copy, Default)]
 pub struct End {
     pub code: u32,
     pub accepted: u32,
@@ -128,7 +100,7 @@ impl From<Result<bool, Refusal>> for End {
             },
             Err(refusal) => End {
                 code: refusal.code(),
-                accepted: 0,
+                ..End::default()
             },
         }
     }
@@ -142,7 +114,11 @@ fn end_test<G: Given>(x: i32, given: G, depth: u32, upper: bool) -> Result<bool,
     let posed = Problem::pose(given, depth)?;
     let mirrored = posed.mirrored;
     let angle = Angle::try_from(orbit::mirror(i64::from(x), mirrored))?;
-    Ok(accepted(posed.of, angle, orbit::mirror_end(upper, mirrored)))
+    Ok(
+        posed
+            .of
+            .accepts(angle.units, orbit::mirror_end(upper, mirrored)),
+    )
 }
 
 // Whether x is an accepted lower end, or its code.

@@ -1,13 +1,15 @@
 // How an end test is settled: by the walk through the sine's terms, at one depth after the other.
 ghost use Rattle.std.specs.Prelude.{◌≡◌, ◌+◌, ◌*◌, Bool, true, false, not};
-ghost use Rattle.orbit.specs.Cell.{orbit_at, CellIn};
+ghost use Rattle.orbit.specs.Cell.{orbit_at};
 ghost use Rattle.ends.specs.Ends.{end_at};
 ghost use Rattle.ends.specs.Least.{from_least};
-ghost use Rattle.ends.specs.Corner.{CornerIn, BoundIn, WalkIn, one_mean, corner_of, test_by, own_bound, at_depth, said};
+ghost use Rattle.ends.specs.Corner.{one_mean, corner_of, test_by, own_mean, own_bound, at_depth, said};
 
-use grid::{Angle, Depth};
-use orbit::Span;
-use series::{Series, SineTerms, Walk};
+use grid::{Angle, Depth, Eccentricity, Mean};
+use orbit::pose::{Cell, Problem};
+use series::sine_terms::SineTerms;
+use series::{Bound, Series};
+use std::marker::Model;
 
 // What no depth changes in the test of one M and one A: A, 2^28 M, and 2^28 X + A 2^34, so that no number is below 0.
 #[derive(Clone, Copy)]
@@ -17,24 +19,34 @@ pub struct Corner {
     level: u64,
 }
 
+impl Model for Corner {
+    ghost use Rattle.ends.specs.Corner as corners;
+
+    ghost Value = { corners.Corner };
+
+    ghost view = { λ c. record { shape = c.shape; mean = c.mean; level = c.level } };
+
+    ghost invariant = { λ c. corners.CornerIn (record { shape = c.shape; mean = c.mean; level = c.level }) };
+
+    ghost inverse = { λ c. record { shape = c.shape; mean = c.mean; level = c.level } };
+}
+
 impl Corner {
-    fn at(m: u64, a: u64, x: u64) -> Corner
-        requires { CornerIn m a x }
+    fn at(m: Mean, a: Eccentricity, x: Angle) -> Corner
         ensures { result ≡ corner_of (orbit_at m a) x }
     {
         Corner {
-            shape: a,
-            mean: grid::ONE * m,
-            level: grid::ONE * x + a * series::BIAS,
+            shape: a.units,
+            mean: grid::ONE * m.units,
+            level: grid::ONE * x.units + a.units * series::BIAS,
         }
     }
 
-    // 2^28 M + A bound, for a biased bound.
-    fn against(self, bound: u64) -> u64
-        requires { BoundIn self bound }
+    // 2^28 M + A bound.
+    fn against(self, bound: Bound) -> u64
         ensures { result ≡ self.shape * bound + self.mean }
     {
-        self.shape * bound + self.mean
+        self.shape * bound.biased + self.mean
     }
 }
 
@@ -42,13 +54,16 @@ impl Corner {
 pub trait Side {
     ghost upper: { Bool };
 
-    // The bound that the test goes by, and the other end's.
-    fn bounds(w: Walk) -> (u64, u64)
-        ensures { result ≡ (own_bound upper w, own_bound (not upper) w) };
+    // The M that the test goes by.
+    fn mean(cell: Cell) -> Mean
+        ensures { result ≡ own_mean upper cell.m };
 
-    // The test of one M and one A by a bound of the sine, biased.
-    fn accepts(c: Corner, bound: u64) -> bool
-        requires { BoundIn c bound }
+    // The bound that the test goes by, of Lo and Hi, and the other end's.
+    fn bounds(lo: Bound, hi: Bound) -> (Bound, Bound)
+        ensures { result ≡ (own_bound upper lo hi, own_bound (not upper) lo hi) };
+
+    // The test of one M and one A by a bound of the sine.
+    fn accepts(c: Corner, bound: Bound) -> bool
         ensures { result ≡ test_by upper c bound };
 }
 
@@ -58,11 +73,16 @@ pub struct LowerSide;
 impl Side for LowerSide {
     ghost upper = { false };
 
-    fn bounds(w: Walk) -> (u64, u64) {
-        (w.greatest, w.least)
+    fn mean(cell: Cell) -> Mean {
+        let m = cell.m;
+        Mean { units: m.floor }
     }
 
-    fn accepts(c: Corner, bound: u64) -> bool {
+    fn bounds(lo: Bound, hi: Bound) -> (Bound, Bound) {
+        (lo, hi)
+    }
+
+    fn accepts(c: Corner, bound: Bound) -> bool {
         c.level <= c.against(bound)
     }
 }
@@ -73,22 +93,25 @@ pub struct UpperSide;
 impl Side for UpperSide {
     ghost upper = { true };
 
-    fn bounds(w: Walk) -> (u64, u64) {
-        (w.least, w.greatest)
+    fn mean(cell: Cell) -> Mean {
+        let m = cell.m;
+        Mean { units: m.ceiling }
     }
 
-    fn accepts(c: Corner, bound: u64) -> bool {
+    fn bounds(lo: Bound, hi: Bound) -> (Bound, Bound) {
+        (hi, lo)
+    }
+
+    fn accepts(c: Corner, bound: Bound) -> bool {
         c.against(bound) <= c.level
     }
 }
 
-// What one depth says of an end, at the depth that the walk has come to: whether both corners accept it, where that settles every
-// greater depth's test too. What is accepted stays so, and where the other bound fails the least corner no depth accepts.
-fn at_depth<S: Side>(least: Corner, most: Corner, w: Walk) -> Option<bool>
-    requires { WalkIn least w × WalkIn most w }
-    ensures { result ≡ said (at_depth S.upper least most w) }
+// What one depth says of an end, by the bound that its test goes by and the other end's: whether both corners accept it, where that
+// settles every greater depth's test too. What is accepted stays so, and where the other bound fails the least corner no depth accepts.
+fn at_depth<S: Side>(least: Corner, most: Corner, own: Bound, other: Bound) -> Option<bool>
+    ensures { result ≡ said (at_depth S.upper least most own other) }
 {
-    let (own, other) = S::bounds(w);
     if S::accepts(least, own) {
         if S::accepts(most, own) {
             Some(true)
@@ -102,25 +125,44 @@ fn at_depth<S: Side>(least: Corner, most: Corner, w: Walk) -> Option<bool>
     }
 }
 
-// The least depth up to the one asked for that accepts an end, by one M and a span of A: the walk stops at the first depth that
-// settles it. Where the terms are spent (R61), what isn't accepted is accepted at no greater depth.
+// The least depth up to the one asked for that accepts an end, by one M and by A rounded down and up: the walk stops at the first depth
+// that settles it. Where the terms are spent (R61), what isn't accepted is accepted at no greater depth.
 #[inline(never)]
-pub fn settle<S: Side>(m: u64, a: Span, depth: Depth, x: Angle) -> Option<u64>
-    requires { CellIn (one_mean m a) }
-    ensures { result ≡ from_least (λ d. end_at S.upper (one_mean m a) d x) depth }
+fn walked<S: Side>(
+    m: Mean,
+    floor: Eccentricity,
+    ceiling: Eccentricity,
+    depth: Depth,
+    x: Angle,
+) -> Option<u32>
+    ensures { result ≡ from_least (λ d. end_at S.upper (one_mean m floor ceiling) d x) depth }
 {
-    let pairs = u64::from(depth.pairs);
-    let angle = x.units;
-    let least = Corner::at(m, a.down, angle);
-    let most = Corner::at(m, a.up, angle);
+    let least = Corner::at(m, floor, x);
+    let most = Corner::at(m, ceiling, x);
     let mut w = SineTerms::begin(x);
-    loop {
+    for done in 0..depth.pairs {
         w = SineTerms::further(w);
-        if let Some(accepts) = at_depth::<S>(least, most, w) {
-            return if accepts { Some(w.pairs) } else { None };
+        let lo = Bound { biased: w.greatest };
+        let hi = Bound { biased: w.least };
+        let (own, other) = S::bounds(lo, hi);
+        if let Some(accepts) = at_depth::<S>(least, most, own, other) {
+            return accepts.then_some(done + 1);
         }
-        if w.pairs == pairs || w.spent() {
-            return None;
+        if w.spent() {
+            break;
         }
     }
+    None
+}
+
+// The least depth of a problem that accepts an end. Its parts are handed on, which is faster than the problem.
+#[inline(always)]
+pub fn settle<S: Side>(p: Problem, x: Angle) -> Option<u32>
+    ensures { result ≡ from_least (λ d. end_at S.upper p.cell d x) p.depth }
+{
+    let cell = p.cell;
+    let a = cell.a;
+    let floor = Eccentricity { units: a.floor };
+    let ceiling = Eccentricity { units: a.ceiling };
+    walked::<S>(S::mean(cell), floor, ceiling, p.depth, x)
 }

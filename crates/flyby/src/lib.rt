@@ -32,13 +32,22 @@ impl Model for Flyby {
     ghost inverse = { λ f. record { mean = f.mean; shape = f.shape } };
 }
 
-impl Flyby {
-    // R81: a flyby within its limits, or its code: 1, then 2.
-    pub fn new(m: u32, b: u32) -> Result<Flyby, Refusal>
-        ensures { result ≡ coded_flyby m b }
-    {
-        let m = codes::limited(m, grid::FLYBY_M, Refusal::BadM)?;
-        let b = codes::spanned(b, grid::FLYBY_B_LEAST, grid::FLYBY_B, Refusal::BadA)?;
+// M and B as they are given.
+#[derive(Clone, Copy, Debug, PartialEq, Eq)]
+pub struct FlybyGrid {
+    pub m: u32,
+    pub b: u32,
+}
+
+// R81: a flyby within its limits, or its code: 1, then 2.
+impl TryFrom<FlybyGrid> for Flyby {
+    type Error = Refusal;
+
+    ghost try_from_gives = { λ given r. r ≡ coded_flyby given.m given.b };
+
+    fn try_from(given: FlybyGrid) -> Result<Self, Refusal> {
+        let m = codes::limited(given.m, grid::FLYBY_M, Refusal::BadM)?;
+        let b = codes::spanned(given.b, grid::FLYBY_B_LEAST, grid::FLYBY_B, Refusal::BadA)?;
         Ok(Flyby {
             mean: u64::from(m),
             shape: u64::from(b),
@@ -48,7 +57,7 @@ impl Flyby {
 
 // R85: whether x is accepted as an upper end, or as a lower one. Only the bound that the test needs is made.
 #[tactic(auto, unfolding(crate::specs::Ends::end_at), using(crate::proofs::Products::low_product, crate::proofs::Products::high_product))]
-pub fn accepted(f: Flyby, x: FlybyAngle, upper: bool) -> bool
+fn accepted(f: Flyby, x: FlybyAngle, upper: bool) -> bool
     ensures { result ≡ end_at upper f.mean f.shape x }
 {
     let level = grid::ONE * (x.units + f.mean);
@@ -69,40 +78,36 @@ impl Tested for Flyby {
 
     ghost room = { Prim.search rules };
 
-    const TOP: u64 = grid::FLYBY_TOP as u64;
+    const TOP: u64 = grid::FLYBY_UNITS;
 
-    fn last_depth(self) -> u64 {
+    fn last_depth(self) -> u32 {
         1
     }
 
-    fn accepted_from(self, units: u64, upper: bool) -> Option<u64> {
+    fn accepted_from(self, units: u64, upper: bool) -> Option<u32> {
         accepted(self, FlybyAngle { units }, upper).then_some(1)
-    }
-
-    fn accepts(self, units: u64, upper: bool) -> bool {
-        accepted(self, FlybyAngle { units }, upper)
     }
 }
 
 // The end test of whatever was given, of an upper end or of a lower one, or why there is none: code 1, 2, then 10.
-fn end_test(x: u32, m: u32, b: u32, upper: bool) -> Result<bool, Refusal>
-    ensures { result ≡ end_known upper x m b }
+fn end_test(x: u32, given: FlybyGrid, upper: bool) -> Result<bool, Refusal>
+    ensures { result ≡ end_known upper x given.m given.b }
 {
-    let flyby = Flyby::new(m, b)?;
+    let flyby = Flyby::try_from(given)?;
     let x = FlybyAngle::try_from(x)?;
     Ok(accepted(flyby, x, upper))
 }
 
 // R87: whether x is an accepted lower end, or the code of what is out of limits: 1, 2, then 10.
-pub fn lower_end(x: u32, m: u32, b: u32) -> End
-    ensures { result ≡ lower_rule x m b }
+pub fn lower_end(x: u32, given: FlybyGrid) -> End
+    ensures { result ≡ lower_rule x given.m given.b }
 {
-    End::from(end_test(x, m, b, false))
+    End::from(end_test(x, given, false))
 }
 
 // R87: whether x is an accepted upper end, or its code.
-pub fn upper_end(x: u32, m: u32, b: u32) -> End
-    ensures { result ≡ upper_rule x m b }
+pub fn upper_end(x: u32, given: FlybyGrid) -> End
+    ensures { result ≡ upper_rule x given.m given.b }
 {
-    End::from(end_test(x, m, b, true))
+    End::from(end_test(x, given, true))
 }

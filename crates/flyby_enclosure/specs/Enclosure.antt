@@ -6,7 +6,8 @@ use Rattle.grid.specs.declared.codes.Refusal.{Refusal}
 use Rattle.grid.specs.declared.codes.Refusal.TheVariants.{NoFlybyEnd}
 use Rattle.orbit.specs.declared.pose.Posed.{Posed}
 use Rattle.enclosure.specs.declared.Enclosure.{Enclosure}
-use Rattle.enclosure.specs.Halving.{Found, lower_search, upper_search}
+use Rattle.enclosure.specs.declared.Found.{Found}
+use Rattle.enclosure.specs.Halving.{lower_search, upper_search}
 use Rattle.enclosure.specs.Enclosure.{refusal, mirror_ends}
 use Rattle.flyby.specs.Ends.{end_at}
 

@@ -5,17 +5,17 @@ ghost use Rattle.std.specs.Prelude.{◌≡◌};
 ghost use Rattle.flyby_enclosure.specs.Enclosure.{enclosure_known, enclosure_rule};
 
 use enclosure::{Enclosure, Found};
-use flyby::Flyby;
+use flyby::{Flyby, FlybyGrid};
 use grid::codes::Refusal;
 use orbit::pose::Posed;
 
 // R88: the ends of a flyby, which nothing mirrors, or why there are none: code 1, 2, then 15, where the top is not accepted as an
 // upper end.
 #[tactic(auto, unfolding(crate::specs::Enclosure::found_lower, crate::specs::Enclosure::found_upper))]
-fn posed_ends(m: u32, b: u32) -> Result<Posed<Found>, Refusal>
-    ensures { result ≡ enclosure_known m b }
+fn posed_ends(given: FlybyGrid) -> Result<Posed<Found>, Refusal>
+    ensures { result ≡ enclosure_known given.m given.b }
 {
-    let flyby = Flyby::new(m, b)?;
+    let flyby = Flyby::try_from(given)?;
     let of = enclosure::enclosed(flyby, Refusal::NoFlybyEnd)?;
     Ok(Posed {
         mirrored: false,
@@ -24,8 +24,8 @@ fn posed_ends(m: u32, b: u32) -> Result<Posed<Found>, Refusal>
 }
 
 // R88: the enclosure of M and B, or its code.
-pub fn enclose(m: u32, b: u32) -> Enclosure
-    ensures { result ≡ enclosure_rule m b }
+pub fn enclose(given: FlybyGrid) -> Enclosure
+    ensures { result ≡ enclosure_rule given.m given.b }
 {
-    Enclosure::from(posed_ends(m, b))
+    Enclosure::from(posed_ends(given))
 }

@@ -7,7 +7,7 @@ use mathlib.Core.Logic.{inl, inr}
 use Prim.Native.Nat.{ℕ}
 use lib.Dec.{T, T_not, ltb, eqb}
 use lib.Ieee.Fits.{eq→eqb}
-use Rattle.std.specs.Prelude.{Ok, Err, MatchResult}
+use Rattle.std.specs.Prelude.{Result, Ok, Err, MatchResult}
 use Rattle.std.proofs.lemmas.Result.{MatchResult-at_ok, MatchResult-at_err, MatchResult-weaker}
 use Rattle.whole.proofs.Bools.{both_parts}
 use Rattle.grid.specs.Codes.{Code, done, Check, number, failed, first_code, checked, allowed, answer, Passed}
@@ -38,18 +38,6 @@ IsDone (failed r) = ⊥
 
 not_done : {r : Refusal} → done ≡ failed r → ⊥
 not_done e = subst IsDone e tt
-
--- where one fails, it is the refusal of the first
-pub stops : {A : Type 0} (cs : List Check) (r : Refusal) → first_code cs ≡ failed r → (zeros : ℕ → A) (given : A)
-    → checked cs zeros given ≡ zeros (number (failed r))
-stops [] r e zeros given = absurd (not_done e)
-stops {A} (c ∷ cs) r e zeros given = step c.fails (λ h. stops cs r h zeros given) e
-  where
-    step : (t : Bool) → (first_code cs ≡ failed r → checked cs zeros given ≡ zeros (number (failed r)))
-        → cond t (failed c.code) (first_code cs) ≡ failed r
-        → cond t (zeros (number (failed c.code))) (checked cs zeros given) ≡ zeros (number (failed r))
-    step true rest h = ap (λ k. zeros (number k)) h
-    step false rest h = rest h
 
 -- ---- a value that is made on the way
 
@@ -99,6 +87,11 @@ answers {A} {B} zeros given value (c ∷ cs) = step c.fails (answers zeros given
         ≡ cond t (zeros (number (failed c.code))) (checked cs zeros (given value))
     step true rest = refl
     step false rest = rest
+
+-- so is what a function answers that makes it and has it answered
+pub answered : {A B : Type 0} (zeros : ℕ → B) (given : A → B) (value : A) (cs : List Check) {known : Result A Refusal} {said : B}
+    → said ≡ answer zeros given known → known ≡ allowed cs value → said ≡ checked cs zeros (given value)
+answered zeros given value cs said known = said ∙ ap (answer zeros given) known ∙ answers zeros given value cs
 
 -- ---- lists of checks
 

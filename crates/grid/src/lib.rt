@@ -30,13 +30,15 @@ impl<const TOP: u64> Model for AngleTo<TOP> {
 // Of an orbit's, up to T.
 pub type Angle = AngleTo<T>;
 
+// The size of an orbit's mean anomaly, up to H.
+pub type Mean = AngleTo<H>;
+
 // Of a flyby's, up to two radians.
 pub type FlybyAngle = AngleTo<FLYBY_UNITS>;
 
 impl Angle {
-    // The largest size of a mean anomaly, the whole part of pi times 2^28.
-    pub const H: u32 = 843_314_856;
-    // The largest angle tested, H + 64.
+    pub const H: u32 = H as u32;
+
     pub const T: u32 = T as u32;
 }
 
@@ -135,6 +137,9 @@ impl TryFrom<u32> for Depth {
     }
 }
 
+// The largest size of a mean anomaly, the whole part of pi times 2^28.
+pub const H: u64 = 843_314_856;
+
 // The largest angle tested, H + 64.
 pub const T: u64 = 843_314_920;
 
@@ -152,7 +157,7 @@ pub const FLYBY_B: u32 = 1_073_741_824;
 pub const FLYBY_TOP: u32 = 536_870_912;
 
 // The same in 64 bits.
-const FLYBY_UNITS: u64 = FLYBY_TOP as u64;
+pub const FLYBY_UNITS: u64 = FLYBY_TOP as u64;
 
 // n units below x, or 0 where that is below 0.
 pub fn step_down(x: u64, n: u64) -> u64

@@ -12,7 +12,8 @@ use Rattle.grid.specs.Codes.{Passed, n_check}
 use Rattle.grid.specs.Refuses.{Refuses}
 use Rattle.grid.specs.declared.codes.Refusal.{Refusal}
 use Rattle.grid.specs.declared.codes.Refusal.TheVariants.{BadEstimate, BadN}
-use Rattle.grid.proofs.FirstCode.{goes, made, passes, split, join, answers}
+use Rattle.grid.proofs.FirstCode as checks
+use Rattle.grid.proofs.FirstCode.{goes, made, passes, split, join}
 use Rattle.grid.proofs.Refuses.{makes, through, alike_given}
 use Rattle.grid.proofs.Fits.{limit_fits, depth_passes}
 use Rattle.orbit.specs.Given.{mirrored_of, cell_of, problem_checks, problem_at, coded_problem}
@@ -92,11 +93,12 @@ settled_is k p =
     from_depth (case_at k) h k.depth (depth_few (case_at k) h) (omega arith)
 
 -- what is decided of a claim, as it is answered
-pub settled_said : (k : Claim) → settled_answer (settled_known k) ≡ settled_rule k
+pub settled_said : (k : Claim) {known : Result Decision Refusal} {said : Settled} → said ≡ settled_answer known → known ≡ settled_known k
+    → said ≡ settled_rule k
 unfolding settled_rule
-settled_said k =
+settled_said k said known =
     let d = settled_depth (case_at k) in
-    answers unsettled (λ (r : Decision). settled_as r.verdict r.depth) (decision (case_at k)) (claim_checks k)
+    checks.answered unsettled (λ (r : Decision). settled_as r.verdict r.depth) (decision (case_at k)) (claim_checks k) said known
     ∙ alike_given unsettled (settled_as (case_verdict (case_at k)) d) (settled_by (case_at k)) (claim_checks k)
     (λ p. ap (λ (v : Verdict). settled_as v d) (settled_is k p))
 

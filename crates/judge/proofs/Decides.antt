@@ -44,9 +44,6 @@ module _ (test : ℕ → Bool) (d : ℕ) where
   pub is_least : {k : ℕ} → 1 ≤ d → Some k ≡ from_least test d → Least test d k
   is_least {k} some e = let h = there (least_depth test d) e in says test d k h.0 some h.1
 
-  pub few : {k : ℕ} → 1 ≤ d → Some k ≡ from_least test d → k ≤ d
-  few some e = (is_least some e).few
-
   from_it : {k : ℕ} → Least test d k → Some k ≡ from_least test d
   from_it {k} h = some_depth k h.some ∙ ap depth_or_none (sym (found test d k h))
 

@@ -20,9 +20,9 @@ use units::Units;
 
 #[derive(Clone, Copy, Debug, PartialEq, Eq)]
 pub enum Verdict {
-    Confirmed,
-    Refuted,
-    Undecided,
+    Confirmed = 16,
+    Refuted = 17,
+    Undecided = 18,
 }
 
 // R45: the number of a verdict.
@@ -30,11 +30,7 @@ impl From<Verdict> for u32 {
     ghost from_gives = { λ v n. n ≡ verdict_number v };
 
     fn from(v: Verdict) -> u32 {
-        match v {
-            Verdict::Confirmed => 16,
-            Verdict::Refuted => 17,
-            Verdict::Undecided => 18,
-        }
+        v as u32
     }
 }
 
@@ -72,6 +68,24 @@ impl TryFrom<u32> for Tolerance {
     }
 }
 
+// R48: what is judged: a problem, an estimate in radians, the tolerance and the depth.
+#[derive(Drop)]
+pub struct Claim<G: Given> {
+    pub given: G,
+    pub estimate: f64,
+    pub n: u32,
+    pub depth: u32,
+}
+
+// In contracts it is a claim about what was given, whichever way it was.
+impl<G: Given> Model for Claim<G> {
+    ghost use Rattle.judge.specs.Judge as judged;
+
+    ghost Value = { judged.Claim };
+
+    ghost view = { λ c. record { given = G.given c.given; estimate = c.estimate; n = c.n; depth = c.depth } };
+}
+
 // A verdict, and the least depth that gives it: 1 to 5, and the last where no depth decides.
 #[derive(Clone, Copy, Debug, PartialEq, Eq)]
 pub struct Decision {
@@ -81,7 +95,7 @@ pub struct Decision {
 
 // A code, and with code 0 the verdict's number: 16, 17 or 18.
 #[repr(C)]
-#[derive(Clone, Copy)]
+#[derive(Clone, Copy, Default)]
 pub struct Judged {
     pub code: u32,
     pub verdict: u32,
@@ -98,7 +112,7 @@ impl From<Result<Decision, Refusal>> for Judged {
             },
             Err(refusal) => Judged {
                 code: refusal.code(),
-                verdict: 0,
+                ..Judged::default()
             },
         }
     }
@@ -106,7 +120,7 @@ impl From<Result<Decision, Refusal>> for Judged {
 
 // A code, and with code 0 the verdict's number and the least depth that gives it.
 #[repr(C)]
-#[derive(Clone, Copy)]
+#[derive(Clone, Copy, Default)]
 pub struct Settled {
     pub code: u32,
     pub verdict: u32,
@@ -125,8 +139,7 @@ impl From<Result<Decision, Refusal>> for Settled {
             },
             Err(refusal) => Settled {
                 code: refusal.code(),
-                verdict: 0,
-                depth: 0,
+                ..Settled::default()
             },
         }
     }
@@ -145,7 +158,7 @@ pub struct Case<P: Tested> {
 
 impl<P: Tested> Case<P> {
     // R43, of the reach p to q of R42: the least depth that confirms.
-    fn confirmed_from(&self) -> Option<u64>
+    fn confirmed_from(&self) -> Option<u32>
         ensures { result ≡ confirmed_from (tests_by (P.test self.now.tested) P.TOP) self.now.units self.now.tolerance (P.last self.now.tested) }
     {
         let n = self.tolerance;
@@ -157,7 +170,7 @@ impl<P: Tested> Case<P> {
     }
 
     // R44: the least depth with an accepted lower end one unit above q.
-    fn lower_above(&self) -> Option<u64>
+    fn lower_above(&self) -> Option<u32>
         ensures { result ≡ above_from (tests_by (P.test self.now.tested) P.TOP) self.now.units self.now.tolerance (P.last self.now.tested) }
     {
         let n = self.tolerance;
@@ -171,7 +184,7 @@ impl<P: Tested> Case<P> {
     }
 
     // R44: the least depth with an accepted upper end one unit below p.
-    fn upper_below(&self) -> Option<u64>
+    fn upper_below(&self) -> Option<u32>
         ensures { result ≡ below_from (tests_by (P.test self.now.tested) P.TOP) self.now.units self.now.tolerance (P.last self.now.tested) }
     {
         let n = self.tolerance;
@@ -192,22 +205,19 @@ impl<P: Tested> Case<P> {
         } else {
             (Verdict::Undecided, self.tested.last_depth())
         };
-        Decision {
-            verdict,
-            depth: depth as u32,
-        }
+        Decision { verdict, depth }
     }
 }
 
-// The verdict on a claim about whatever is given and the least depth that gives it, or why there is none: code 1, 2, 3, 4, then 5.
-// On the mirror the estimate is mirrored.
-fn decide_claim<G: Given>(given: G, estimate: f64, n: u32, depth: u32) -> Result<Decision, Refusal>
-    ensures { result ≡ settled_known (record { given = G.given given; estimate = estimate; n = n; depth = depth }) }
+// The verdict on a claim and the least depth that gives it, or why there is none: code 1, 2, 3, 4, then 5. On the mirror the estimate
+// is mirrored.
+pub fn decide<G: Given>(claim: Claim<G>) -> Result<Decision, Refusal>
+    ensures { result ≡ settled_known claim }
 {
-    let posed = Problem::pose(given, depth)?;
-    let value = units::mirror(estimate, posed.mirrored);
+    let posed = Problem::pose(claim.given, claim.depth)?;
+    let value = units::mirror(claim.estimate, posed.mirrored);
     let units = units::in_units(value, Angle::T, Refusal::BadEstimate)?;
-    let tolerance = Tolerance::try_from(n)?;
+    let tolerance = Tolerance::try_from(claim.n)?;
     let case = Case {
         tested: posed.of,
         units,
@@ -217,15 +227,21 @@ fn decide_claim<G: Given>(given: G, estimate: f64, n: u32, depth: u32) -> Result
 }
 
 // The verdict on a claim, or the code of what is out of limits: 1, 2, 3, 4, then 5.
-pub fn judge<G: Given>(given: G, estimate: f64, n: u32, depth: u32) -> Judged
-    ensures { result ≡ judge_rule (record { given = G.given given; estimate = estimate; n = n; depth = depth }) }
+pub fn judge<G: Given>(claim: Claim<G>) -> Judged
+    ensures { result ≡ judge_rule claim }
 {
-    Judged::from(decide_claim(given, estimate, n, depth))
+    Judged::from(decide(claim))
 }
 
 // R62: the verdict on a claim and the least depth that gives it, or the code of what is out of limits: 1, 2, 4, then 5.
 pub fn settle<G: Given>(given: G, estimate: f64, n: u32) -> Settled
     ensures { result ≡ settle_rule (G.given given) estimate n }
 {
-    Settled::from(decide_claim(given, estimate, n, Depth::GREATEST))
+    let depth = Depth::GREATEST;
+    Settled::from(decide(Claim {
+        given,
+        estimate,
+        n,
+        depth,
+    }))
 }

@@ -10,7 +10,7 @@ use Rattle.grid.specs.declared.codes.Refusal.{Refusal}
 use Rattle.grid.specs.declared.codes.Refusal.TheVariants.{BadM, BadA}
 use Rattle.units.specs.Units.{mirror_double, is_below_zero, product, floor_and_ceiling, off_range}
 use Rattle.orbit.specs.Mirror.{mirror}
-use Rattle.orbit.specs.Cell.{Cell, Exact, InCell, grid_cell, span_of, CellIn}
+use Rattle.orbit.specs.Cell.{Cell, Exact, InCell, grid_cell, CellIn}
 use Rattle.orbit.specs.declared.pose.Problem.{Problem}
 use Rattle.orbit.specs.declared.pose.Posed.{Posed}
 
@@ -44,7 +44,7 @@ mirrored_of (doubles m e) = is_below_zero m
 -- R1, R59, R60: what is known in whole units of M, or on the mirror of -M, and of A
 abbrev pub cell_of : Given → Cell
 cell_of (grid m a) = grid_cell (nat_abs m) a
-cell_of (doubles m e) = record { m = span_of (floor_and_ceiling (size_of m)); a = span_of (floor_and_ceiling e) }
+cell_of (doubles m e) = record { m = floor_and_ceiling (size_of m); a = floor_and_ceiling e }
 
 -- R1: M and A exactly: a finite double is product / den units in size
 abbrev pub exact_of : Given → Exact

@@ -3,16 +3,16 @@ ghost use Rattle.std.specs.Prelude.{◌≡◌};
 ghost use Rattle.orbit.specs.Given as ways;
 ghost use Rattle.orbit.specs.Given.{coded_cell, coded_problem};
 
-use crate::Span;
 use grid::codes::Refusal;
 use grid::{Angle, Depth, Eccentricity, codes};
 use std::marker::Model;
+use units::Units;
 
 // M, and A of the eccentricity A / 2^28.
 #[derive(Clone, Copy, Debug, PartialEq, Eq)]
 pub struct Cell {
-    pub m: Span,
-    pub a: Span,
+    pub m: Units,
+    pub a: Units,
 }
 
 impl Model for Cell {
@@ -64,8 +64,8 @@ impl Given for Grid {
     fn pose(self) -> Result<Posed<Cell>, Refusal> {
         let mean = codes::limited(whole::size(self.m), Angle::H, Refusal::BadM)?;
         let shape = Eccentricity::try_from(self.a)?;
-        let m = Span::from(u64::from(mean));
-        let a = Span::from(shape.units);
+        let m = Units::from(u64::from(mean));
+        let a = Units::from(shape.units);
         Ok(Posed {
             mirrored: whole::negative(self.m),
             of: Cell { m, a },
@@ -87,10 +87,8 @@ impl Given for Doubles {
     fn pose(self) -> Result<Posed<Cell>, Refusal> {
         let mirrored = units::is_below_zero(self.m);
         let size = units::mirror(self.m, mirrored);
-        let mean = units::in_units(size, Angle::H, Refusal::BadM)?;
-        let shape = units::in_units(self.e, Eccentricity::ONE, Refusal::BadA)?;
-        let m = Span::from(mean);
-        let a = Span::from(shape);
+        let m = units::in_units(size, Angle::H, Refusal::BadM)?;
+        let a = units::in_units(self.e, Eccentricity::ONE, Refusal::BadA)?;
         Ok(Posed {
             mirrored,
             of: Cell { m, a },

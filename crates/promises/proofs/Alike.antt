@@ -19,13 +19,12 @@ use Rattle.units.specs.Units.{mirror_double, is_below_zero, floor_and_ceiling, o
 use Rattle.units.specs.Exact.{InUnits}
 use Rattle.units.specs.declared.Units.{Units}
 use Rattle.units.proofs.Scaled.{over_power}
-use Rattle.orbit.specs.Cell.{span_of}
 use Rattle.orbit.specs.Given.{Given, grid, doubles, size_of, is_bad_m, is_bad_a, checks_of, mirrored_of, cell_of}
 use Rattle.orbit.specs.Cell.{Cell}
 use Rattle.orbit.proofs.Possible.{own_possible, own_value}
 use Rattle.orbit.proofs.OnGrid.{whole_units}
 use Rattle.enclosure.specs.Enclosure.{refusal, enclosed, enclosure_checks}
-use Rattle.proposal.specs.Propose.{proposed, mirror_proposal, proposal_refused, proposal_rule}
+use Rattle.proposal.specs.Propose.{proposed, mirror_candidate, mirror_proposal, proposal_as, proposal_refused, proposal_rule}
 use Rattle.judge.specs.Judge.{judge_rule}
 use Rattle.judge.specs.Settle.{settle_rule}
 use Rattle.distance.specs.Distance.{distance_rule}
@@ -60,7 +59,7 @@ module _ {g h : Given} (e : AlikeIn g h) where
         enclose = λ d. rw (e.m, e.a, e.cell, t, f) (sym (through exchanged refusal (enclosed false (cell_of h) d) (enclosure_checks h d)));
         propose =
             rw (e.m, e.a, e.cell, t, f)
-            (sym (through (mirror_proposal true) proposal_refused (mirror_proposal false (proposed (cell_of h))) (checks_of h)));
+            (sym (through (mirror_proposal true) proposal_refused (proposal_as (mirror_candidate false (proposed (cell_of h)))) (checks_of h)));
         judge = λ x n d. simp (e.m, e.a, e.cell, t, f);
         settle = λ x n. simp (e.m, e.a, e.cell, t, f);
         distance = λ x. simp (e.m, e.a, e.cell, t, f);
@@ -86,7 +85,7 @@ module _ (m e : Float) (below : is_below_zero m ≡ true) where
       mirrors (record { m = ap (off_range H_units) one_size; a = refl; cell = ap cell_from one_size }) below (not_below m below)
     where
       cell_from : Float → Cell
-      cell_from x = record { m = span_of (floor_and_ceiling x); a = span_of (floor_and_ceiling e) }
+      cell_from x = record { m = floor_and_ceiling x; a = floor_and_ceiling e }
 
 pub mirrored : Mirrored
 mirrored =
@@ -105,7 +104,7 @@ on_grid m e M A p q =
     same (record {
       m = u.off H_units;
       a = ap (off_range one) (sym s) ∙ v.off one;
-      cell = ap₂ (λ (x y : Units). record { m = span_of x; a = span_of y }) u.rounded (ap floor_and_ceiling (sym s) ∙ v.rounded);
+      cell = ap₂ (λ (x y : Units). record { m = x; a = y }) u.rounded (ap floor_and_ceiling (sym s) ∙ v.rounded);
     }) u.sign
 
 -- a double with the sign and the size of a whole number of units

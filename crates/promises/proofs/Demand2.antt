@@ -36,7 +36,7 @@ use Rattle.rotations.specs.Rotate.{brought}
 use Rattle.rotations.specs.declared.State.{State}
 use Rattle.rotations.proofs.Brought.{brought_within}
 use Rattle.proposal.specs.Certify.{low_at, high_at, certifies, certificate}
-use Rattle.proposal.specs.Propose.{concluded, mirror_proposal, proposal_rule}
+use Rattle.proposal.specs.Propose.{concluded, mirror_candidate, proposal_as, proposal_rule}
 use Rattle.proposal.proofs.Certificate.{certificate_only, concluded_smallest, concluded-true}
 use Rattle.judge.specs.Judge.{claim_of}
 use Rattle.judge.specs.declared.Verdict.TheVariants.{Confirmed, Refuted}
@@ -135,7 +135,7 @@ module _ (g : Given) (checks : Passed (problem_checks g depths)) (s : State) whe
         accepts_at true (high_at E j) g depths checks (min-le_right (E + 2 ^ j) T_units) q,
       )
 
-  certified : (cell_of g).m.up ≤ H_units → Certified g (mirror_proposal (mirrored_of g) (concluded (cell_of g) s))
+  certified : (cell_of g).m.ceiling ≤ H_units → Certified g (proposal_as (mirror_candidate (mirrored_of g) (concluded (cell_of g) s)))
   unfolding concluded
   certified mean =
       let E = brought s.angle in

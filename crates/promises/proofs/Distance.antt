@@ -27,7 +27,7 @@ use Rattle.ends.specs.Ends.{lower_end, upper_end}
 use Rattle.ends.proofs.Apart.{apart}
 use Rattle.enclosure.specs.Enclosure.{found_lower, found_upper, found_ends, mirror_ends}
 use Rattle.enclosure.specs.declared.Enclosure.{Enclosure}
-use Rattle.enclosure.specs.Halving.{Found}
+use Rattle.enclosure.specs.declared.Found.{Found}
 use Rattle.enclosure.proofs.Encloses.{Encloses, always, code_zero, encloses}
 use Rattle.judge.specs.Verdict.{low_end, high_end}
 use Rattle.judge.specs.Judge.{Claim, claim_of, case_at, verdict, judge_rule}
@@ -38,7 +38,7 @@ use Rattle.judge.specs.Settle.{settled_as, settle_rule}
 use Rattle.judge.proofs.Kept.{is_confirmed, is_refuted, confirmed_by_lem, refuted_by_lem}
 use Rattle.judge.proofs.Answered.{to_judged, case_in, judged_passed, answer_case}
 use Rattle.judge.proofs.SettleAnswers.{at_last}
-use Rattle.distance.specs.Distance.{least_off, most_off, off_by, units_of, no_distance, distance_checks, distance_rule}
+use Rattle.distance.specs.Distance.{least_off, most_off, off_by, off_as, units_of, no_distance, distance_checks, distance_rule}
 use Rattle.distance.specs.declared.Off.{Off}
 use Rattle.distance.proofs.Answered.{distances}
 use Rattle.distance.proofs.Apart as off
@@ -59,7 +59,7 @@ Apart r u w n = (least_off r u * w ≤ n) × (n ≤ most_off r u * w)
 module _ (r : Found) (u : Units) where
   -- R68
   module _ (order : r.a ≤ r.b) (rounded : u.floor ≤ u.ceiling) where
-    off_parts : (mirrored : Bool) → OffBy (mirror_ends mirrored r.a r.b) (signed_floor mirrored u) (signed_ceiling mirrored u) (off_by r u)
+    off_parts : (mirrored : Bool) → OffBy (mirror_ends mirrored r.a r.b) (signed_floor mirrored u) (signed_ceiling mirrored u) (off_as (off_by r u))
     off_parts false =
         let below = is_minus (is_pos r.a) (is_pos u.ceiling) in
         let above = is_minus (is_pos u.floor) (is_pos r.b) in
@@ -118,9 +118,9 @@ module _ (g : Given) (x : Float) (checks : Passed (distance_checks g x)) where
   found = found_ends (cell_of g) depths
 
   -- a distance is given
-  answer : distance_rule g x ≡ off_by found (units_of g x)
+  answer : distance_rule g x ≡ off_as (off_by found (units_of g x))
   unfolding distance_rule
-  answer = goes (distance_checks g x) checks no_distance (off_by found (units_of g x))
+  answer = goes (distance_checks g x) checks no_distance (off_as (off_by found (units_of g x)))
 
   enclosed : (enclosure_of g).code ≡ 0
   enclosed = always g (join (checks_of g) (depth_check depths ∷ []) (checks.0, (checks.1.0, tt)) (refl, tt))
@@ -208,7 +208,7 @@ refuted c h =
 in_order : (g : Given) (x : Float) → (distance_rule g x).least ≤ (distance_rule g x).most
 unfolding distance_rule
 in_order g x =
-    of_checked (λ (r : Off). r.least ≤ r.most) no_distance (off_by (found_ends (cell_of g) depths) (units_of g x)) (distance_checks g x)
+    of_checked (λ (r : Off). r.least ≤ r.most) no_distance (off_as (off_by (found_ends (cell_of g) depths) (units_of g x))) (distance_checks g x)
     (λ e. omega arith, (λ e. omega arith, (λ e. omega arith, tt)))
     (λ p. off.in_order (found_ends (cell_of g) depths) (units_of g x) (tight g x p).order (size g x p).ordered)
 

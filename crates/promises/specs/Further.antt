@@ -69,9 +69,9 @@ pub record Sums : Type 0 where
 pub record Ends : Type 0 where
   -- R17, R18: a cell's test holds exactly where the grid's holds at both corners, by any bound
   pub lower_corners : (c : Cell) (X : ℕ) (b : ℤ)
-      → T (below_by c X b) ↔ T (below_at (orbit_at c.m.down c.a.down) X b) × T (below_at (orbit_at c.m.down c.a.up) X b)
+      → T (below_by c X b) ↔ T (below_at (orbit_at c.m.floor c.a.floor) X b) × T (below_at (orbit_at c.m.floor c.a.ceiling) X b)
   pub upper_corners : (c : Cell) (X : ℕ) (b : ℤ)
-      → T (above_by c X b) ↔ T (above_at (orbit_at c.m.up c.a.down) X b) × T (above_at (orbit_at c.m.up c.a.up) X b)
+      → T (above_by c X b) ↔ T (above_at (orbit_at c.m.ceiling c.a.floor) X b) × T (above_at (orbit_at c.m.ceiling c.a.ceiling) X b)
   -- R17, R18: on the grid they are one corner, for every M and A
   pub lower_grid : (m a X : ℕ) (b : ℤ) → below_by (grid_cell m a) X b ≡ below_at (orbit_at m a) X b
   pub upper_grid : (m a X : ℕ) (b : ℤ) → above_by (grid_cell m a) X b ≡ above_at (orbit_at m a) X b
@@ -100,10 +100,10 @@ pub record Proposals : Type 0 where
   -- R34
   pub G_right : Scaled G
   -- R39: a smallest width exists for every E from 0 to T, and after any rotations its ends meet R19's inequalities
-  pub exists : (c : Cell) (E : ℕ) → c.m.up ≤ H_units → E ≤ T_units → Smallest (certifies c E) widths (certificate c E)
-  pub lower_true : (g : Given) (s : State) → (cell_of g).m.up ≤ H_units
+  pub exists : (c : Cell) (E : ℕ) → c.m.ceiling ≤ H_units → E ≤ T_units → Smallest (certifies c E) widths (certificate c E)
+  pub lower_true : (g : Given) (s : State) → (cell_of g).m.ceiling ≤ H_units
       → let r = concluded (cell_of g) s in ExactAt false g (low_at (nat_abs r.angle) r.j)
-  pub upper_true : (g : Given) (s : State) → (cell_of g).m.up ≤ H_units
+  pub upper_true : (g : Given) (s : State) → (cell_of g).m.ceiling ≤ H_units
       → let r = concluded (cell_of g) s in ExactAt true g (high_at (nat_abs r.angle) r.j)
 
 pub record Estimates : Type 0 where

@@ -10,12 +10,12 @@ use Rattle.units.specs.Units.{floor_and_ceiling, coded_estimate}
 use Rattle.orbit.specs.Given.{Given, mirrored_of, cell_of, coded_cell, problem_at, coded_problem}
 use Rattle.ends.specs.Entry.{flagged, end_of, lower_rule, upper_rule}
 use Rattle.enclosure.specs.Enclosure.{found_ends, enclosed, enclosure_rule}
-use Rattle.proposal.specs.Propose.{proposed, mirror_proposal, proposal_rule}
+use Rattle.proposal.specs.Propose.{candidate_of, proposal_as, proposal_rule}
 use Rattle.judge.specs.Verdict.{verdict_number}
 use Rattle.judge.specs.Judge.{Claim, claim_of, case_at, case_verdict, verdict, judge_rule}
 use Rattle.judge.specs.Settle.{settled_by, settle_rule}
 use Rattle.judge.specs.Limits.{coded_tolerance}
-use Rattle.distance.specs.Distance.{off_by, units_of, distance_rule}
+use Rattle.distance.specs.Distance.{off_as, off_by, units_of, distance_rule}
 use Rattle.step.specs.Entry.{step_from, stepped_as, step_rule, judged_as, judged_rule}
 use Rattle.step.specs.Known.{method_of, coded_method}
 use Rattle.sinh.specs.Sinh.{low, high}
@@ -50,14 +50,14 @@ pub record Rules : Type 0 where
   -- R31
   pub enclose : (g : Given) (d : ℕ) → Gives (λ r. r.code) (enclosure_rule g d) (enclosed (mirrored_of g) (cell_of g) d)
   -- R40: the 50 rotations, E brought into 0 to T, and its certificate
-  pub propose : (g : Given) → Gives (λ r. r.code) (proposal_rule g) (mirror_proposal (mirrored_of g) (proposed (cell_of g)))
+  pub propose : (g : Given) → Gives (λ r. r.code) (proposal_rule g) (proposal_as (candidate_of g))
   -- R48
   pub judge : (c : Claim) → Gives (λ r. r.code) (judge_rule c) (verdict (case_verdict (case_at c)))
   -- R62
   pub settle : (g : Given) (x : Float) (n : ℕ)
       → Gives (λ r. r.code) (settle_rule g x n) (settled_by (case_at (claim_of g x n depths)))
   -- R68
-  pub distance : (g : Given) (x : Float) → Gives (λ r. r.code) (distance_rule g x) (off_by (found_ends (cell_of g) depths) (units_of g x))
+  pub distance : (g : Given) (x : Float) → Gives (λ r. r.code) (distance_rule g x) (off_as (off_by (found_ends (cell_of g) depths) (units_of g x)))
   -- R78: the operations in their order, and what is handed over
   pub step : (m : ℤ) (a : ℕ) (x : Float) (method : ℕ) → Gives (λ r. r.code) (step_rule m a x method) (stepped_as (step_from m a x method))
   -- R79: the same step, judged

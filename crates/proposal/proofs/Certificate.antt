@@ -22,7 +22,7 @@ use Rattle.rotations.specs.declared.State.{State}
 use Rattle.rotations.proofs.Brought.{brought_within}
 use Rattle.proposal.proofs.Smallest.{smallest, only}
 
-module _ (c : Cell) (E : ℕ) (mean : c.m.up ≤ H_units) (angle : E ≤ T_units) where
+module _ (c : Cell) (E : ℕ) (mean : c.m.ceiling ≤ H_units) (angle : E ≤ T_units) where
   -- the last width reaches from 0 to T
   low_30 : low_at E 30 ≡ 0
   low_30 = omega arith
@@ -57,12 +57,12 @@ ends_true g E j angle t =
 
 -- ---- R39: what the entry's answer says, for any final state, so that no rotation can make it false
 
-pub concluded_smallest : (c : Cell) (s : State) → c.m.up ≤ H_units
+pub concluded_smallest : (c : Cell) (s : State) → c.m.ceiling ≤ H_units
     → Smallest (certifies c (nat_abs (concluded c s).angle)) widths (concluded c s).j
 unfolding concluded
 concluded_smallest c s mean = certified c (brought s.angle) mean (brought_within s.angle)
 
-pub concluded-true : (g : Given) (s : State) → (cell_of g).m.up ≤ H_units
+pub concluded-true : (g : Given) (s : State) → (cell_of g).m.ceiling ≤ H_units
     → let r = concluded (cell_of g) s in
     ExactAt false g (low_at (nat_abs r.angle) r.j) × ExactAt true g (high_at (nat_abs r.angle) r.j)
 unfolding concluded

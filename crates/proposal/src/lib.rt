@@ -3,15 +3,25 @@
 
 ghost use Rattle.std.specs.Prelude.{◌≡◌, ◌<◌};
 ghost use Rattle.proposal.specs.Certify.{widths, certifies};
-ghost use Rattle.proposal.specs.Propose.{proposed, mirror_proposal, proposal_known, proposal_answer, proposal_rule};
+ghost use Rattle.proposal.specs.Propose.{proposed, mirror_candidate, proposal_known, proposal_answer, proposal_rule};
 
+use ends::Tested;
 use grid::codes::Refusal;
-use grid::{Angle, Depth, codes};
-use orbit::pose::{Cell, Given, Problem};
+use grid::{Angle, Depth, Eccentricity, Mean, codes};
+use orbit::pose::{Cell, Given, Posed, Problem};
 
-// The entry's answer. The angle is E; y is near e sin E, and x near e cos E.
+// R40: what is proposed. The angle is E; y is near e sin E, and x near e cos E; j is E's certificate.
+#[derive(Clone, Copy, Debug, PartialEq, Eq)]
+pub struct Candidate {
+    pub angle: i32,
+    pub y: i64,
+    pub x: i64,
+    pub j: u32,
+}
+
+// The entry's answer: a code, and with code 0 what is proposed.
 #[repr(C)]
-#[derive(Clone, Copy)]
+#[derive(Clone, Copy, Default)]
 pub struct Proposal {
     pub code: u32,
     pub angle: i32,
@@ -31,57 +41,58 @@ fn holds(cell: Cell, angle: Angle, j: u32) -> bool
 {
     let width = 1u64 << j;
     let units = angle.units;
-    let low = Angle {
-        units: grid::step_down(units, width),
-    };
-    let high = Angle {
-        units: grid::step_up(units, width, grid::T),
-    };
+    let low = grid::step_down(units, width);
+    let high = grid::step_up(units, width, grid::T);
     let depth = Depth {
         pairs: Depth::GREATEST,
     };
-    ends::lower(Problem { cell, depth }, low) && ends::upper(Problem { cell, depth }, high)
+    Problem { cell, depth }.accepts(low, false) && Problem { cell, depth }.accepts(high, true)
 }
 
 // The rotations by M and A rounded down, with E brought into range and certified (R38): the last width always holds. R59: on the
 // mirror E and y change their signs, and x does not.
-fn conclude(cell: Cell, mirrored: bool) -> Proposal
-    ensures { result ≡ mirror_proposal mirrored (proposed cell) }
+fn conclude(posed: Posed<Cell>) -> Candidate
+    ensures { result ≡ mirror_candidate posed.mirrored (proposed posed.of) }
 {
+    let mirrored = posed.mirrored;
+    let cell = posed.of;
     let m = cell.m;
     let a = cell.a;
-    let s = rotations::rotate(m.down, a.down);
-    let units = rotations::bring(s.angle);
-    let angle = Angle { units };
+    let s = rotations::rotate(Mean { units: m.floor }, Eccentricity { units: a.floor });
+    let angle = rotations::bring(s.angle);
     let j = (0..WIDTHS).find(move |&j| holds(cell, angle, j)).unwrap();
-    Proposal {
-        code: codes::DONE,
-        angle: orbit::mirror_angle(units, mirrored),
+    Candidate {
+        angle: orbit::mirror_angle(angle, mirrored),
         y: orbit::mirror(s.sine, mirrored),
         x: s.cosine,
         j,
     }
 }
 
-// The proposal for whatever is given, or why there is none: code 1, then 2.
-fn posed_proposal<G: Given>(given: G) -> Result<Proposal, Refusal>
+// What is proposed for whatever is given, or why there is nothing: code 1, then 2.
+fn posed_proposal<G: Given>(given: G) -> Result<Candidate, Refusal>
     ensures { result ≡ proposal_known (G.given given) }
 {
-    let posed = given.pose()?;
-    Ok(conclude(posed.of, posed.mirrored))
+    Ok(conclude(given.pose()?))
 }
 
-impl From<Result<Proposal, Refusal>> for Proposal {
+impl From<Result<Candidate, Refusal>> for Proposal {
     ghost from_gives = { λ known r. r ≡ proposal_answer known };
 
-    fn from(known: Result<Proposal, Refusal>) -> Self {
-        known.unwrap_or_else(|refusal| Proposal {
-            code: refusal.code(),
-            angle: 0,
-            y: 0,
-            x: 0,
-            j: 0,
-        })
+    fn from(known: Result<Candidate, Refusal>) -> Self {
+        match known {
+            Ok(candidate) => Proposal {
+                code: codes::DONE,
+                angle: candidate.angle,
+                y: candidate.y,
+                x: candidate.x,
+                j: candidate.j,
+            },
+            Err(refusal) => Proposal {
+                code: refusal.code(),
+                ..Proposal::default()
+            },
+        }
     }
 }
 

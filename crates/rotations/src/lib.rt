@@ -3,10 +3,13 @@
 
 ghost use Rattle.std.specs.Prelude.{◌≡◌, ◌<◌, ◌≤◌, pos};
 ghost use Rattle.whole.specs.Sign.{signed_by};
-ghost use Rattle.grid.specs.Grid.{one, H_units};
+ghost use Rattle.whole.specs.Room.{Roomy};
+ghost use Rattle.grid.specs.Grid.{one};
 ghost use Rattle.rotations.specs.Table.{entries, entry};
 ghost use Rattle.rotations.specs.Rotate.{shifted, shift_of, turned, plus_at, start, rotated, brought};
-ghost use Rattle.rotations.specs.Room.{Shiftable, Turnable, Signable};
+ghost use Rattle.rotations.specs.Room.{RoomyState};
+
+use grid::{Angle, Eccentricity, Mean};
 
 // E, and x and y: e times the cosine and the sine of E. All are in units.
 #[derive(Clone, Copy, Debug, PartialEq, Eq)]
@@ -68,7 +71,8 @@ fn shift_of(i: u32) -> u32
 // R36: what the cosine loses of the sine, and the sine gains of the cosine: the shift rounds down, and the sign comes after it.
 #[tactic(auto, unfolding(crate::specs::Rotate::shifted))]
 fn part(z: i64, k: u32, plus: bool) -> i64
-    requires { Shiftable z k }
+    requires number { Roomy z }
+    requires shift { k < entries }
     ensures { result ≡ signed_by plus (shifted k z) }
 {
     whole::signed(z >> k, plus)
@@ -77,30 +81,31 @@ fn part(z: i64, k: u32, plus: bool) -> i64
 impl State {
     // R35: the state before the first rotation.
     #[tactic(auto, unfolding(crate::specs::Rotate::start, crate::specs::Table::G))]
-    fn start(a: u64) -> State
-        requires { a ≤ one }
-        ensures { result ≡ start a }
+    fn start(a: Eccentricity) -> State
+        ensures at { result ≡ start a }
+        ensures shape { a ≤ one }
     {
         State {
             angle: 0,
-            cosine: (a * G / grid::ONE) as i64,
+            cosine: (a.units * G / grid::ONE) as i64,
             sine: 0,
         }
     }
 
     // R36: the sign of the next rotation, true for plus.
     #[tactic(auto, unfolding(crate::specs::Rotate::plus_at))]
-    fn sign(self, m: u64) -> bool
-        requires { Signable self m }
+    fn sign(self, m: Mean) -> bool
+        requires { RoomyState self }
         ensures { result ≡ plus_at m self }
     {
-        self.angle - self.sine < m as i64
+        self.angle - self.sine < m.units as i64
     }
 
     // One rotation by the angle of entry k, with its sign given.
     #[tactic(auto, using(crate::proofs::CodeSize::roomy_entry))]
     fn turn(self, k: u32, plus: bool) -> State
-        requires { Turnable self k }
+        requires state { RoomyState self }
+        requires shift { k < entries }
         ensures { result ≡ turned self k plus }
     {
         let angle = self.angle + whole::signed(entry(k), plus);
@@ -116,9 +121,7 @@ impl State {
 
 // All rotations of M and A.
 #[tactic(auto, unfolding(crate::specs::Rotate::rotations, crate::specs::Rotate::rotated))]
-pub fn rotate(m: u64, a: u64) -> State
-    requires mean { m ≤ H_units }
-    requires shape { a ≤ one }
+pub fn rotate(m: Mean, a: Eccentricity) -> State
     ensures { result ≡ rotated m a }
 {
     let mut s = State::start(a);
@@ -129,8 +132,10 @@ pub fn rotate(m: u64, a: u64) -> State
 }
 
 // R37: E, or the nearer of 0 and T where it lies outside.
-pub fn bring(angle: i64) -> u64
+pub fn bring(angle: i64) -> Angle
     ensures { result ≡ brought angle }
 {
-    angle.clamp(0, grid::T as i64) as u64
+    Angle {
+        units: angle.clamp(0, grid::T as i64) as u64,
+    }
 }

@@ -6,7 +6,6 @@ use Rattle.whole.specs.Round.{down, up}
 use Rattle.series.specs.Terms.{Series, l, u, Q-, Q+}
 use Rattle.series.specs.Bounds.{raw_low, raw_high, greatest_low, least_high}
 use Rattle.series.specs.declared.Walk.{Walk}
-use Rattle.series.specs.declared.Biased.{Biased}
 
 -- 2^34: with it no bound is below 0
 abbrev pub bias : ℕ
@@ -15,9 +14,6 @@ bias = 17179869184
 abbrev pub biased : ℤ → ℕ
 biased (pos n) = bias + n
 biased (negsuc n) = bias - suc n
-
-abbrev pub biased_bounds : Series → ℕ → ℕ → Biased
-biased_bounds s X d = record { lo = biased (greatest_low s X d); hi = biased (least_high s X d) }
 
 -- R13: the best bounds of depths 1 to d, biased; before depth 1 there is none, and any bound is better than what stands
 -- there
@@ -90,6 +86,17 @@ deepened w odd even =
       greatest = max w.greatest low;
       least = min w.least high;
     }
+
+-- R11, R71: terms are divided by n times the next number, for each other n from a first one on
+abbrev pub by_next : ℕ → ℕ
+by_next n = n * (n + 1)
+
+-- so the pair after p pairs
+abbrev pub odd_from : ℕ → ℕ → ℕ
+odd_from first p = by_next (4 * p + first)
+
+abbrev pub even_from : ℕ → ℕ → ℕ
+even_from first p = by_next (4 * p + first + 2)
 
 -- ---- where the walk ends
 

@@ -1,36 +1,106 @@
 // Bounds of an alternating series in whole units, and sine's: Lo and Hi of an angle at a depth.
 #![tactic(auto)]
 
-ghost use Rattle.std.specs.Prelude.{◌≡◌, suc, ◌*◌, ◌≤◌};
+ghost use Rattle.std.specs.Prelude.{◌≡◌, ℕ, suc, ◌*◌, ◌^◌, ◌≤◌};
 ghost use Rattle.std.proofs.Math.IntN.{sub_ℕ};
 ghost use Rattle.grid.specs.Grid.{one, T_units, depths};
-ghost use Rattle.whole.specs.Round.{down, up};
+ghost use Rattle.whole.specs.Round.{rounded};
 ghost use Rattle.series.specs.Terms as terms;
 ghost use Rattle.series.specs.Sine.{sine};
-ghost use Rattle.series.specs.Walk.{bias, biased_bounds, walk, begun, deepened, spent_at, term_limit, TermFits, PairFits, Unfinished};
-ghost use Rattle.series.specs.Entry.{bounds_of, bounds_rule, sine_rule};
-ghost use Rattle.series.specs.Asked.{asked_for, unbiased_bounds, Small};
+ghost use Rattle.series.specs.Walk.{bias, walk, begun, deepened, spent_at, term_limit, TermFits, PairFits, Unfinished, InRange};
+ghost use Rattle.series.specs.Entry.{bounds_rule, sine_rule};
+ghost use Rattle.series.specs.Asked.{biased_bounds, asked_for, unbiased, bounds_answer, interval_known};
 
 use grid::codes::Refusal;
 use grid::{Angle, Depth, codes};
+use sine_terms::SineTerms;
+use std::marker::Model;
+
+mod pairs;
+pub mod sine_terms;
 
 // 2^34, which is added to a bound so that it is never below 0.
 pub const BIAS: u64 = 17_179_869_184;
 
+// A bound with the bias added.
+#[derive(Clone, Copy, Debug, PartialEq, Eq)]
+pub struct Bound {
+    pub biased: u64,
+}
+
+impl Model for Bound {
+    ghost use Rattle.std.specs.Prelude.{ℕ, ◌*◌, ◌≤◌};
+    ghost use Rattle.series.specs.Walk.{bias};
+
+    ghost Value = { ℕ };
+
+    ghost view = { λ b. b.biased };
+
+    ghost invariant = { λ b. b.biased ≤ 2 * bias };
+
+    ghost inverse = { λ n. record { biased = n } };
+}
+
+impl Bound {
+    // The signed number that was biased.
+    pub fn value(self) -> i64
+        ensures { result ≡ sub_ℕ self bias }
+    {
+        (self.biased as i64) - (BIAS as i64)
+    }
+}
+
 // Lo and Hi, biased.
 #[derive(Clone, Copy)]
 pub struct Biased {
-    pub lo: u64,
-    pub hi: u64,
+    pub lo: Bound,
+    pub hi: Bound,
+}
+
+impl Biased {
+    // The same as they are.
+    pub fn values(self) -> Interval
+        ensures { result ≡ unbiased self }
+    {
+        Interval {
+            lo: self.lo.value(),
+            hi: self.hi.value(),
+        }
+    }
+}
+
+// The two bounds that a number lies between.
+#[derive(Clone, Copy)]
+pub struct Interval {
+    pub lo: i64,
+    pub hi: i64,
 }
 
 // What an entry answers.
 #[repr(C)]
-#[derive(Clone, Copy)]
+#[derive(Clone, Copy, Default)]
 pub struct Bounds {
     pub code: u32,
     pub lo: i64,
     pub hi: i64,
+}
+
+impl From<Result<Interval, Refusal>> for Bounds {
+    ghost from_gives = { λ known r. r ≡ bounds_answer known };
+
+    fn from(known: Result<Interval, Refusal>) -> Self {
+        match known {
+            Ok(bounds) => Bounds {
+                code: codes::DONE,
+                lo: bounds.lo,
+                hi: bounds.hi,
+            },
+            Err(refusal) => Bounds {
+                code: refusal.code(),
+                ..Bounds::default()
+            },
+        }
+    }
 }
 
 // The angle and the depth that are asked about.
@@ -61,34 +131,40 @@ pub struct Walk {
 
 const ROUND: u64 = grid::ONE - 1;
 
-// t q / (2^28 divisor), rounded down once: the shift's loss can't reach the next multiple.
-pub fn term_down(t: u64, q: u64, divisor: u64) -> u64
-    requires { TermFits t q divisor }
-    ensures { result ≡ down (t * q) (one * divisor) }
+// n / 2^28, rounded up where the bound is to lie above, and else down.
+pub fn scaled<const ABOVE: bool>(n: u64) -> u64
+    requires { n ≤ 2 ^ 63 }
+    ensures { result ≡ rounded ABOVE n one }
 {
-    ((t * q) >> 28) / divisor
+    if ABOVE { (n + ROUND) >> 28 } else { n >> 28 }
 }
 
-// The same, rounded up.
-pub fn term_up(t: u64, q: u64, divisor: u64) -> u64
+// t q / (2^28 divisor), rounded so once: the shift's loss can't reach the next multiple.
+pub fn term<const ABOVE: bool>(t: u64, q: u64, divisor: u64) -> u64
     requires { TermFits t q divisor }
-    ensures { result ≡ up (t * q) (one * divisor) }
+    ensures { result ≡ rounded ABOVE (t * q) (one * divisor) }
 {
-    (((t * q + ROUND) >> 28) + (divisor - 1)) / divisor
+    let product = scaled::<ABOVE>(t * q);
+    if ABOVE {
+        (product + (divisor - 1)) / divisor
+    } else {
+        product / divisor
+    }
 }
 
 impl Walk {
     // The walk before its first pair, of a series whose term 0 at the angle x is given.
-    pub fn begin(x: u64, term0: u64) -> Walk
-        requires { (x ≤ T_units) × (term0 ≤ term_limit) }
-        ensures { result ≡ begun x term0 }
+    pub fn begin(x: Angle, term0: u64) -> Walk
+        requires { term0 ≤ term_limit }
+        ensures at { result ≡ begun x term0 }
+        ensures top { x ≤ T_units }
     {
-        let square = x * x;
+        let square = x.units * x.units;
         Walk {
-            angle: x,
+            angle: x.units,
             pairs: 0,
-            floor: square >> 28,
-            ceiling: (square + ROUND) >> 28,
+            floor: scaled::<false>(square),
+            ceiling: scaled::<true>(square),
             down: term0,
             up: term0,
             low: BIAS,
@@ -104,10 +180,10 @@ impl Walk {
         requires { PairFits self odd even }
         ensures { result ≡ deepened self odd even }
     {
-        let odd_down = term_down(self.down, self.floor, odd);
-        let odd_up = term_up(self.up, self.ceiling, odd);
-        let even_down = term_down(odd_down, self.floor, even);
-        let even_up = term_up(odd_up, self.ceiling, even);
+        let odd_down = term::<false>(self.down, self.floor, odd);
+        let odd_up = term::<true>(self.up, self.ceiling, odd);
+        let even_down = term::<false>(odd_down, self.floor, even);
+        let even_up = term::<true>(odd_up, self.ceiling, even);
         let low = self.low + self.down - odd_up;
         let high = self.high + even_up - odd_down;
         Walk {
@@ -123,12 +199,15 @@ impl Walk {
     }
 
     // The bounds that it has come to.
-    pub fn best(self) -> Biased
+    fn best(self) -> Biased
+        requires { (self.greatest ≤ 2 * bias) × (self.least ≤ 2 * bias) }
         ensures { result ≡ record { lo = self.greatest; hi = self.least } }
     {
         Biased {
-            lo: self.greatest,
-            hi: self.least,
+            lo: Bound {
+                biased: self.greatest,
+            },
+            hi: Bound { biased: self.least },
         }
     }
 
@@ -147,7 +226,8 @@ pub trait Series {
     // The walk before the first pair.
     fn begin(x: Angle) -> Walk
         ensures at { result ≡ walk series x 0 }
-        ensures top { x ≤ T_units };
+        ensures top { x ≤ T_units }
+        ensures range { InRange series x };
 
     // The next pair of terms.
     fn further(w: Walk) -> Walk
@@ -157,102 +237,16 @@ pub trait Series {
     // R16, R71: Lo and Hi, biased. The walk ends at the depth, or where the terms are spent (R61).
     fn bounds_at(x: Angle, d: Depth) -> Biased
         ensures value { result ≡ biased_bounds series x d }
-        ensures within { (x ≤ T_units) × (d ≤ depths) }
+        ensures range { InRange series x }
     {
-        let pairs = u64::from(d.pairs);
-        let mut w = Self::begin(x);
-        loop {
-            w = Self::further(w);
-            if w.pairs == pairs || w.spent() {
-                return w.best();
+        let mut w = Self::further(Self::begin(x));
+        for _ in 1..d.pairs {
+            if w.spent() {
+                break;
             }
+            w = Self::further(w);
         }
-    }
-
-    // The same as they are, with code 0.
-    fn answer(x: Angle, d: Depth) -> Bounds
-        ensures { result ≡ bounds_of series x d };
-}
-
-// Sine's.
-#[derive(Clone, Copy)]
-pub struct SineTerms;
-
-// R61: the greatest angles at which the terms are spent after one pair, after two, after three and after four.
-const SPENT_1: u64 = 14_417_715;
-
-const SPENT_2: u64 = 128_808_899;
-
-const SPENT_3: u64 = 341_821_575;
-
-const SPENT_4: u64 = 614_482_590;
-
-impl Series for SineTerms {
-    ghost series = { sine };
-
-    fn begin(x: Angle) -> Walk {
-        let angle = x.units;
-        Walk::begin(angle, angle)
-    }
-
-    // Each pair's divisors stand in its own arm, so that the quotients are products.
-    #[inline(always)]
-    fn further(w: Walk) -> Walk {
-        match w.pairs {
-            0 => w.deepen(6, 20),
-            1 => w.deepen(42, 72),
-            2 => w.deepen(110, 156),
-            3 => w.deepen(210, 272),
-            _ => w.deepen(342, 420),
-        }
-    }
-
-    // The pairs stand one after the other, each with its divisors, which is faster than a choice for each. That the terms are spent
-    // is told by the angle, which a processor knows long before them.
-    fn bounds_at(x: Angle, d: Depth) -> Biased {
-        let n = d.pairs;
-        let angle = x.units;
-        let mut w = Walk::begin(angle, angle).deepen(6, 20);
-        if n == 1 || angle <= SPENT_1 {
-            return w.best();
-        }
-        w = w.deepen(42, 72);
-        if n == 2 || angle <= SPENT_2 {
-            return w.best();
-        }
-        w = w.deepen(110, 156);
-        if n == 3 || angle <= SPENT_3 {
-            return w.best();
-        }
-        w = w.deepen(210, 272);
-        if n == 4 || angle <= SPENT_4 {
-            return w.best();
-        }
-        w.deepen(342, 420).best()
-    }
-
-    fn answer(x: Angle, d: Depth) -> Bounds {
-        unbiased_bounds(Self::bounds_at(x, d))
-    }
-}
-
-// The signed number that was biased.
-pub fn unbiased(biased: u64) -> i64
-    requires { biased ≤ 2 * bias }
-    ensures { result ≡ sub_ℕ biased bias }
-{
-    (biased as i64) - (BIAS as i64)
-}
-
-// Both bounds as they are, with code 0.
-pub fn unbiased_bounds(b: Biased) -> Bounds
-    requires { Small b }
-    ensures { result ≡ unbiased_bounds b }
-{
-    Bounds {
-        code: codes::DONE,
-        lo: unbiased(b.lo),
-        hi: unbiased(b.hi),
+        w.best()
     }
 }
 
@@ -265,18 +259,19 @@ pub fn ask(x: u32, depth: u32) -> Result<Asked, Refusal>
     Ok(Asked { angle, depth })
 }
 
-// The bounds of a series at an angle of x units and a depth, or the code of what is out of limits.
+// The bounds of a series at an angle of x units and a depth, or why there are none.
+fn known<S: Series>(x: u32, depth: u32) -> Result<Interval, Refusal>
+    ensures { result ≡ interval_known S.series x depth }
+{
+    let q = ask(x, depth)?;
+    Ok(S::bounds_at(q.angle, q.depth).values())
+}
+
+// The same as C has them, with the code of what is out of limits.
 pub fn lo_and_hi<S: Series>(x: u32, depth: u32) -> Bounds
     ensures { result ≡ bounds_rule S.series x depth }
 {
-    match ask(x, depth) {
-        Ok(q) => S::answer(q.angle, q.depth),
-        Err(refusal) => Bounds {
-            code: refusal.code(),
-            lo: 0,
-            hi: 0,
-        },
-    }
+    Bounds::from(known::<S>(x, depth))
 }
 
 // R16: Lo and Hi of an angle of x units at a depth, or the code of what is out of limits.

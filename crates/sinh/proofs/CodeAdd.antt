@@ -3,6 +3,7 @@ use mathlib.Core.Path.{◌≡◌, refl, sym, ap₂, ◌∙◌}
 use mathlib.Core.Bool.{Bool, true, false}
 use Prim.Native.Nat.{ℕ, zero, suc, ◌+◌, ◌*◌, ◌≤◌}
 use native.Mathlib.Omega.{arith}
+use Rattle.whole.specs.Round.{rounded}
 use Rattle.grid.specs.Grid.{one}
 use Rattle.grid.specs.Flyby.{X_top}
 use Rattle.series.specs.Terms.{l, u}
@@ -11,7 +12,7 @@ use Rattle.series.specs.Walk.{TermFits}
 use Rattle.series.proofs.TermLimits.{Q_order, Q_within}
 use Rattle.series.proofs.OfSine.{u_within, l_within}
 use Rattle.sinh.specs.Sinh.{last, total}
-use Rattle.sinh.specs.Adding.{rounded, square, terms}
+use Rattle.sinh.specs.Adding.{square, terms}
 
 -- the last term that was added is number n
 pub record Adding (above : Bool) (X n term sum : ℕ) : Type 0 where

@@ -1,19 +1,15 @@
 -- How the code adds the terms up, of either kind. No entry's contract cites this file.
-use Rattle.std.specs.Prelude.{Bool, true, false, ℕ}
-use Rattle.whole.specs.Round.{down, up}
-use Rattle.series.specs.Terms.{Q-, Q+, l, u}
+use Rattle.std.specs.Prelude.{Bool, true, false, ℕ, ◌*◌}
+use Rattle.whole.specs.Round.{rounded}
+use Rattle.grid.specs.Grid.{one}
+use Rattle.series.specs.Terms.{l, u}
 use Rattle.series.specs.Sine.{sine}
 use Rattle.sinh.specs.Sinh.{total}
 use Rattle.sinh.specs.declared.Added.{Added}
 
--- `true` for what is rounded up
-abbrev pub rounded : Bool → ℕ → ℕ → ℕ
-rounded true = up
-rounded false = down
-
+-- the square in units, `true` for what is rounded up
 abbrev pub square : Bool → ℕ → ℕ
-square true = Q+
-square false = Q-
+square above X = rounded above (X * X) one
 
 abbrev pub terms : Bool → ℕ → ℕ → ℕ
 terms true = u sine

@@ -1,16 +1,15 @@
 // The hyperbolic sine between two whole numbers: sine's terms, all of them added.
 #![tactic(auto)]
 
-ghost use Rattle.std.specs.Prelude.{◌≡◌, ◌*◌, ◌≤◌};
-ghost use Rattle.grid.specs.Grid.{one};
+ghost use Rattle.std.specs.Prelude.{◌≡◌, ◌≤◌};
 ghost use Rattle.grid.specs.Flyby.{X_top};
-ghost use Rattle.series.specs.Walk.{TermFits};
 ghost use Rattle.sinh.specs.Sinh.{last, low, high};
-ghost use Rattle.sinh.specs.Adding.{rounded, square, added_to};
-ghost use Rattle.sinh.specs.Entry.{sinh_rule};
+ghost use Rattle.sinh.specs.Adding.{added_to};
+ghost use Rattle.sinh.specs.Entry.{sinh_known, sinh_rule};
 
-use grid::{FlybyAngle, codes};
-use series::Bounds;
+use grid::FlybyAngle;
+use grid::codes::Refusal;
+use series::{Bounds, Interval};
 
 // R82: the number of the last term.
 const LAST: u64 = 9;
@@ -22,41 +21,16 @@ struct Added {
     sum: u64,
 }
 
-// X^2 in units, rounded up where the bound is to lie above.
-fn square_of<const ABOVE: bool>(x: FlybyAngle) -> u64
-    ensures value { result ≡ square ABOVE x }
-    ensures within { x ≤ X_top }
-{
-    let squared = x.units * x.units;
-    if ABOVE {
-        (squared + (grid::ONE - 1)) >> 28
-    } else {
-        squared >> 28
-    }
-}
-
-// The term after t, rounded likewise.
-fn next_term<const ABOVE: bool>(t: u64, q: u64, divisor: u64) -> u64
-    requires { TermFits t q divisor }
-    ensures { result ≡ rounded ABOVE (t * q) (one * divisor) }
-{
-    if ABOVE {
-        series::term_up(t, q, divisor)
-    } else {
-        series::term_down(t, q, divisor)
-    }
-}
-
 // The terms 0 to 9, added. A compiler writes the nine turns out, so that the quotients are products.
 fn add_terms<const ABOVE: bool>(x: FlybyAngle) -> Added
     ensures value { result ≡ added_to ABOVE x last }
     ensures within { x ≤ X_top }
 {
-    let q = square_of::<ABOVE>(x);
+    let q = series::scaled::<ABOVE>(x.units * x.units);
     let mut term = x.units;
     let mut sum = x.units;
     for k in 1..=LAST {
-        term = next_term::<ABOVE>(term, q, 2 * k * (2 * k + 1));
+        term = series::term::<ABOVE>(term, q, 2 * k * (2 * k + 1));
         sum += term;
     }
     Added { term, sum }
@@ -79,21 +53,21 @@ pub fn high(x: FlybyAngle) -> u64
     all.sum + all.term
 }
 
-// R84: low and high of x units, or code 10.
-#[tactic(auto, unfolding(crate::specs::Entry::sinh_rule), using(crate::proofs::Limits::low_small, crate::proofs::Limits::high_small))]
+// R84: low and high of x units, or why there are none.
+#[tactic(auto, using(crate::proofs::Limits::low_small, crate::proofs::Limits::high_small))]
+fn known(x: u32) -> Result<Interval, Refusal>
+    ensures { result ≡ sinh_known x }
+{
+    let x = FlybyAngle::try_from(x)?;
+    Ok(Interval {
+        lo: low(x) as i64,
+        hi: high(x) as i64,
+    })
+}
+
+// R84: the same as C has them, with code 10.
 pub fn sinh(x: u32) -> Bounds
     ensures { result ≡ sinh_rule x }
 {
-    match FlybyAngle::try_from(x) {
-        Ok(x) => Bounds {
-            code: codes::DONE,
-            lo: low(x) as i64,
-            hi: high(x) as i64,
-        },
-        Err(refusal) => Bounds {
-            code: refusal.code(),
-            lo: 0,
-            hi: 0,
-        },
-    }
+    Bounds::from(known(x))
 }

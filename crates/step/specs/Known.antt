@@ -1,18 +1,27 @@
 -- What the functions behind both entries answer. No entry's contract cites this file.
-use Rattle.std.specs.Prelude.{ℕ, Bool, cond, eqb, [], ◌∷◌, ℤ, Float, Result}
+use Rattle.std.specs.Prelude.{ℕ, Bool, cond, eqb, [], ◌∷◌, ℤ, Float, Option, None, Some, Result, Ok, Err}
 use Rattle.grid.specs.Codes.{number, done, allowed, answer, method_check}
 use Rattle.grid.specs.declared.codes.Refusal.{Refusal}
-use Rattle.units.specs.Units.{floor_and_ceiling, estimate_check}
-use Rattle.orbit.specs.Cell.{Cell}
-use Rattle.step.specs.Step.{local_at, newton_step, halley_step, step_number, step_estimate}
-use Rattle.step.specs.Entry.{step_from, step_checks, unstepped, stepped_as, judged_checks, unjudged_step, verdict_on}
+use Rattle.orbit.specs.Given.{grid}
+use Rattle.judge.specs.Verdict.{verdict_number}
+use Rattle.judge.specs.Judge.{claim_of}
+use Rattle.judge.specs.Decision.{settled_known}
+use Rattle.judge.specs.declared.Decision.{Decision}
+use Rattle.judge.specs.declared.Verdict.{Verdict}
+use Rattle.step.specs.Step.{flat, handed_over, newton_step, halley_step, step_number, step_estimate}
+use Rattle.step.specs.Entry.{step_from, step_checks, unstepped, stepped_as, judged_checks, unjudged_step}
 use Rattle.step.specs.declared.Local.{Local}
 use Rattle.step.specs.declared.Method.{Method}
 use Rattle.step.specs.declared.Method.TheVariants as methods
 use Rattle.step.specs.declared.Taken.{Taken}
+use Rattle.step.specs.declared.Taken.TheVariants.{Newton, Halley, Flat}
 use Rattle.step.specs.declared.Stepped.{Stepped}
 use Rattle.step.specs.declared.Outcome.{Outcome}
 use Rattle.step.specs.declared.JudgedStep.{JudgedStep}
+
+-- R77: what is handed over, where the step isn't flat
+abbrev pub unless_flat : Bool → Float → Float → Option Float
+unless_flat mirrored divisor y = cond (flat divisor y) None (Some (handed_over mirrored y))
 
 -- R78: the step of a method
 abbrev pub step_of : Method → Bool → Local → Taken
@@ -27,10 +36,6 @@ method_of n = cond (eqb n 1) methods.Newton methods.Halley
 abbrev pub coded_method : ℕ → Result Method Refusal
 coded_method n = allowed (method_check n ∷ []) (method_of n)
 
--- R76: code 4, or what a step from an estimate goes by
-abbrev pub coded_local : Cell → Float → Result Local Refusal
-coded_local c x = allowed (estimate_check x ∷ []) (local_at c.m.down c.a.down x (floor_and_ceiling x).floor)
-
 -- R78: the first code that applies, or the step
 abbrev pub step_known : ℤ → ℕ → Float → ℕ → Result Taken Refusal
 step_known m a x method = allowed (step_checks m a x method) (step_from m a x method)
@@ -39,9 +44,35 @@ step_known m a x method = allowed (step_checks m a x method) (step_from m a x me
 abbrev pub step_answer : Result Taken Refusal → Stepped
 step_answer = answer unstepped stepped_as
 
+-- R48: the verdict that was decided, where there is one
+abbrev pub verdict_in : Result Decision Refusal → Option Verdict
+verdict_in (Ok decision) = Some decision.verdict
+verdict_in (Err refusal) = None
+
+-- R79: the judge's verdict on a new estimate; Flat has none
+abbrev pub judged_on : ℤ → ℕ → ℕ → ℕ → Taken → Option Verdict
+judged_on m a n d (Newton y) = verdict_in (settled_known (claim_of (grid m a) y n d))
+judged_on m a n d (Halley y) = verdict_in (settled_known (claim_of (grid m a) y n d))
+judged_on m a n d Flat = None
+
+-- R79: its number, and 0 where there is none
+abbrev pub judged_number : Option Verdict → ℕ
+judged_number (Some v) = verdict_number v
+judged_number None = 0
+
 -- R79: a step and its verdict
 abbrev pub outcome_of : ℤ → ℕ → ℕ → ℕ → Taken → Outcome
-outcome_of m a n d t = record { taken = t; verdict = verdict_on m a n d t }
+outcome_of m a n d t = record { taken = t; verdict = judged_on m a n d t }
+
+-- R79: both as the entry gives them
+abbrev pub outcome_as : Outcome → JudgedStep
+outcome_as j =
+    record {
+      code = number done;
+      step = step_number j.taken;
+      estimate = step_estimate j.taken;
+      verdict = judged_number j.verdict;
+    }
 
 -- R79: the first code that applies, or the step, judged
 abbrev pub judged_known : ℤ → ℕ → Float → ℕ → ℕ → ℕ → Result Outcome Refusal
@@ -49,6 +80,4 @@ judged_known m a x method n d = allowed (judged_checks m a x method n d) (outcom
 
 -- R79: as the entry `step_judged` says it
 abbrev pub judged_answer : Result Outcome Refusal → JudgedStep
-judged_answer =
-    answer unjudged_step
-    (λ j. record { code = number done; step = step_number j.taken; estimate = step_estimate j.taken; verdict = j.verdict })
+judged_answer = answer unjudged_step outcome_as

@@ -1,18 +1,19 @@
 // One step of Newton or Halley in doubles, from an estimate of the root of Kepler's equation, and its judging.
 #![tactic(auto)]
 
-ghost use Rattle.std.specs.Prelude.{◌≡◌, ◌*◌, ◌≤◌};
+ghost use Rattle.std.specs.Prelude.{◌≡◌};
 ghost use Rattle.std.proofs.Math.IntN.{sub_ℕ};
 ghost use Rattle.series.specs.Walk.{bias};
-ghost use Rattle.step.specs.Step.{in_radians, flat, handed_over, newton_step, halley_step, step_number, step_estimate};
-ghost use Rattle.step.specs.Entry.{verdict_on, step_rule, judged_rule};
-ghost use Rattle.step.specs.Known.{step_of, coded_method, coded_local, step_known, step_answer, judged_known, judged_answer};
+ghost use Rattle.step.specs.Step.{in_radians, local_at, flat, handed_over, newton_step, halley_step, step_number, step_estimate};
+ghost use Rattle.step.specs.Entry.{step_rule, judged_rule};
+ghost use Rattle.step.specs.Known.{unless_flat, step_of, coded_method, step_known, step_answer, judged_on, judged_known, judged_answer};
 
 use cosine::lows;
 use grid::codes::Refusal;
 use grid::{Angle, codes};
-use judge::Tolerance;
+use judge::{Claim, Tolerance, Verdict};
 use orbit::pose::{Cell, Given, Grid, Problem};
+use series::Bound;
 
 // R78: a method, by its number.
 #[derive(Clone, Copy, Debug, PartialEq, Eq)]
@@ -35,6 +36,9 @@ impl TryFrom<u32> for Method {
     }
 }
 
+// R77: the number of no step, beside those of the methods.
+const NO_STEP: u32 = 3;
+
 // R77: the step taken, with the new estimate. Flat hands nothing over.
 #[derive(Clone, Copy, Debug)]
 pub enum Taken {
@@ -49,9 +53,9 @@ impl Taken {
         ensures { result ≡ step_number self }
     {
         match self {
-            Taken::Newton(_) => 1,
-            Taken::Halley(_) => 2,
-            Taken::Flat => 3,
+            Taken::Newton(_) => Method::Newton as u32,
+            Taken::Halley(_) => Method::Halley as u32,
+            Taken::Flat => NO_STEP,
         }
     }
 
@@ -60,27 +64,32 @@ impl Taken {
         ensures { result ≡ step_estimate self }
     {
         match self {
-            Taken::Newton(y) => y,
-            Taken::Halley(y) => y,
+            Taken::Newton(y) | Taken::Halley(y) => y,
             Taken::Flat => 0.0,
         }
     }
 
-    // R79: the number of the judge's verdict on it. Of a flat step there is nothing to judge.
-    fn verdict(self, given: Grid, n: u32, depth: u32) -> u32
-        ensures { result ≡ verdict_on given.m given.a n depth self }
+    // R79: the judge's verdict on it. Of a flat step there is nothing to judge.
+    fn verdict(self, given: Grid, n: u32, depth: u32) -> Option<Verdict>
+        ensures { result ≡ judged_on given.m given.a n depth self }
     {
-        match self {
-            Taken::Newton(y) => judge::judge(given, y, n, depth).verdict,
-            Taken::Halley(y) => judge::judge(given, y, n, depth).verdict,
-            Taken::Flat => 0,
-        }
+        let estimate = match self {
+            Taken::Newton(estimate) | Taken::Halley(estimate) => estimate,
+            Taken::Flat => return None,
+        };
+        let claim = Claim {
+            given,
+            estimate,
+            n,
+            depth,
+        };
+        judge::decide(claim).ok().map(|decision| decision.verdict)
     }
 }
 
 // A code, and with code 0 the number of the step and its estimate.
 #[repr(C)]
-#[derive(Clone, Copy)]
+#[derive(Clone, Copy, Default)]
 pub struct Stepped {
     pub code: u32,
     pub step: u32,
@@ -99,23 +108,22 @@ impl From<Result<Taken, Refusal>> for Stepped {
             },
             Err(refusal) => Stepped {
                 code: refusal.code(),
-                step: 0,
-                estimate: 0.0,
+                ..Stepped::default()
             },
         }
     }
 }
 
-// A step taken, and the number of the judge's verdict on its estimate: what is handed over is what was judged.
+// A step taken, and the judge's verdict on its estimate: what is handed over is what was judged.
 #[derive(Clone, Copy, Debug)]
 pub struct Outcome {
     taken: Taken,
-    verdict: u32,
+    verdict: Option<Verdict>,
 }
 
 // The same as C has it, with a code.
 #[repr(C)]
-#[derive(Clone, Copy)]
+#[derive(Clone, Copy, Default)]
 pub struct JudgedStep {
     pub code: u32,
     pub step: u32,
@@ -132,24 +140,21 @@ impl From<Result<Outcome, Refusal>> for JudgedStep {
                 code: codes::DONE,
                 step: outcome.taken.number(),
                 estimate: outcome.taken.estimate(),
-                verdict: outcome.verdict,
+                verdict: outcome.verdict.map_or(0, u32::from),
             },
             Err(refusal) => JudgedStep {
                 code: refusal.code(),
-                step: 0,
-                estimate: 0.0,
-                verdict: 0,
+                ..JudgedStep::default()
             },
         }
     }
 }
 
-// R75: a bound that is biased, in radians.
-fn radians(biased: u64) -> f64
-    requires { biased ≤ 2 * bias }
-    ensures { result ≡ in_radians (sub_ℕ biased bias) }
+// R75: a bound in radians.
+fn radians(bound: Bound) -> f64
+    ensures { result ≡ in_radians (sub_ℕ bound bias) }
 {
-    (series::unbiased(biased) as f64) / units::RADIAN
+    (bound.value() as f64) / units::RADIAN
 }
 
 // R77: whether nothing is handed over: by the divisor, or by the check that the new estimate would meet.
@@ -170,6 +175,17 @@ fn handed(y: f64, mirrored: bool) -> f64
     }
 }
 
+// R77: what is handed over, unless the step is flat.
+fn unless_flat(divisor: f64, y: f64, mirrored: bool) -> Option<f64>
+    ensures { result ≡ unless_flat mirrored divisor y }
+{
+    if flat(divisor, y) {
+        None
+    } else {
+        Some(handed(y, mirrored))
+    }
+}
+
 // R76: the estimate E, g = e sin E, the residual F and the slope D.
 #[derive(Clone, Copy, Debug)]
 pub struct Local {
@@ -180,37 +196,30 @@ pub struct Local {
 }
 
 impl Local {
-    // R75, R76: of M and A, and an estimate as it is posed, or code 4. Each operation is rounded once, and they stand in the rule's
-    // order.
-    fn at(cell: Cell, x: f64) -> Result<Local, Refusal>
-        ensures { result ≡ coded_local cell x }
+    // R75, R76: of M and A, and an estimate as it is posed, with its floor in units. Each operation is rounded once, and they stand
+    // in the rule's order.
+    fn at(cell: Cell, x: f64, floor: Angle) -> Local
+        ensures { result ≡ local_at cell.m.floor cell.a.floor x floor }
     {
-        let u = units::in_units(x, Angle::T, Refusal::BadEstimate)?;
-        let low = lows::at(Angle { units: u.floor });
+        let low = lows::at(floor);
         let s = radians(low.sine);
         let k = radians(low.cosine);
-        let mean = cell.m;
-        let shape = cell.a;
-        let m = (mean.down as f64) / units::RADIAN;
-        let e = (shape.down as f64) / units::RADIAN;
+        let m = (cell.m.floor as f64) / units::RADIAN;
+        let e = (cell.a.floor as f64) / units::RADIAN;
         let g = e * s;
-        Ok(Local {
+        Local {
             estimate: x,
             g,
             residual: (x - m) - g,
             slope: 1.0 - e * k,
-        })
+        }
     }
 
     fn newton(self, mirrored: bool) -> Taken
         ensures { result ≡ newton_step mirrored self }
     {
         let y = self.estimate - self.residual / self.slope;
-        if flat(self.slope, y) {
-            Taken::Flat
-        } else {
-            Taken::Newton(handed(y, mirrored))
-        }
+        unless_flat(self.slope, y, mirrored).map_or(Taken::Flat, Taken::Newton)
     }
 
     fn halley(self, mirrored: bool) -> Taken
@@ -218,11 +227,7 @@ impl Local {
     {
         let divisor = 2.0 * self.slope * self.slope - self.residual * self.g;
         let y = self.estimate - 2.0 * self.residual * self.slope / divisor;
-        if flat(divisor, y) {
-            Taken::Flat
-        } else {
-            Taken::Halley(handed(y, mirrored))
-        }
+        unless_flat(divisor, y, mirrored).map_or(Taken::Flat, Taken::Halley)
     }
 
     // R78: the step of a method.
@@ -237,17 +242,20 @@ impl Local {
 }
 
 // R78: the step from an estimate, or why there is none: code 1, 2, 4, then 21.
+#[tactic(auto, using(units::proofs::Rounding::estimate_fits))]
 fn take(given: Grid, estimate: f64, method: u32) -> Result<Taken, Refusal>
     ensures { result ≡ step_known given.m given.a estimate method }
 {
     let posed = given.pose()?;
-    let mirrored = posed.mirrored;
-    let local = Local::at(posed.of, units::mirror(estimate, mirrored))?;
+    let value = units::mirror(estimate, posed.mirrored);
+    let u = units::in_units(value, Angle::T, Refusal::BadEstimate)?;
     let method = Method::try_from(method)?;
-    Ok(local.step(method, mirrored))
+    let local = Local::at(posed.of, value, Angle { units: u.floor });
+    Ok(local.step(method, posed.mirrored))
 }
 
 // R79: the same, judged, or why there is none: code 1, 2, 3, 4, 5, then 21.
+#[tactic(auto, using(units::proofs::Rounding::estimate_fits))]
 fn take_judged(
     given: Grid,
     estimate: f64,
@@ -258,12 +266,12 @@ fn take_judged(
     ensures { result ≡ judged_known given.m given.a estimate method n depth }
 {
     let posed = Problem::pose(given, depth)?;
-    let mirrored = posed.mirrored;
-    let problem = posed.of;
-    let local = Local::at(problem.cell, units::mirror(estimate, mirrored))?;
+    let value = units::mirror(estimate, posed.mirrored);
+    let u = units::in_units(value, Angle::T, Refusal::BadEstimate)?;
     Tolerance::try_from(n)?;
     let method = Method::try_from(method)?;
-    let taken = local.step(method, mirrored);
+    let local = Local::at(posed.of.cell, value, Angle { units: u.floor });
+    let taken = local.step(method, posed.mirrored);
     Ok(Outcome {
         taken,
         verdict: taken.verdict(given, n, depth),

@@ -23,7 +23,8 @@ use claims::Batch;
 use distance::Off;
 use enclosure::Enclosure;
 use ends::End;
-use judge::{Judged, Settled};
+use flyby::FlybyGrid;
+use judge::{Claim, Judged, Settled};
 use orbit::pose::{Doubles, Grid};
 use proposal::Proposal;
 use series::Bounds;
@@ -103,7 +104,13 @@ pub extern "C" fn stripeawn_propose_double(m: f64, e: f64) -> Proposal
 pub extern "C" fn stripeawn_judge(m: i32, a: u32, estimate: f64, n: u32, depth: u32) -> Judged
     ensures { result ≡ judge_rule (record { given = grid m a; estimate = estimate; n = n; depth = depth }) }
 {
-    judge::judge(Grid { m, a }, estimate, n, depth)
+    let given = Grid { m, a };
+    judge::judge(Claim {
+        given,
+        estimate,
+        n,
+        depth,
+    })
 }
 
 #[unsafe(no_mangle)]
@@ -116,7 +123,13 @@ pub extern "C" fn stripeawn_judge_double(
 ) -> Judged
     ensures { result ≡ judge_rule (record { given = doubles m e; estimate = estimate; n = n; depth = depth }) }
 {
-    judge::judge(Doubles { m, e }, estimate, n, depth)
+    let given = Doubles { m, e };
+    judge::judge(Claim {
+        given,
+        estimate,
+        n,
+        depth,
+    })
 }
 
 #[unsafe(no_mangle)]
@@ -179,28 +192,28 @@ pub extern "C" fn stripeawn_flyby_sinh(x: u32) -> Bounds
 pub extern "C" fn stripeawn_flyby_lower_end(x: u32, m: u32, b: u32) -> End
     ensures { result ≡ flyby_ends.lower_rule x m b }
 {
-    flyby::lower_end(x, m, b)
+    flyby::lower_end(x, FlybyGrid { m, b })
 }
 
 #[unsafe(no_mangle)]
 pub extern "C" fn stripeawn_flyby_upper_end(x: u32, m: u32, b: u32) -> End
     ensures { result ≡ flyby_ends.upper_rule x m b }
 {
-    flyby::upper_end(x, m, b)
+    flyby::upper_end(x, FlybyGrid { m, b })
 }
 
 #[unsafe(no_mangle)]
 pub extern "C" fn stripeawn_flyby_enclose(m: u32, b: u32) -> Enclosure
     ensures { result ≡ flyby_enclosure.enclosure_rule m b }
 {
-    flyby_enclosure::enclose(m, b)
+    flyby_enclosure::enclose(FlybyGrid { m, b })
 }
 
 #[unsafe(no_mangle)]
 pub extern "C" fn stripeawn_flyby_judge(m: u32, b: u32, estimate: f64, n: u32) -> Judged
     ensures { result ≡ flyby_judge.judge_rule (flyby_judge.claim_of m b estimate n) }
 {
-    flyby_judge::judge(m, b, estimate, n)
+    flyby_judge::judge(FlybyGrid { m, b }, estimate, n)
 }
 
 #[unsafe(no_mangle)]

@@ -1,4 +1,4 @@
--- From a binary64 number to whole units, R41 and R60, or the code of one that is off range, R5.
+-- A number in whole units, R1: of the grid; R41 and R60: from a binary64 number, or the code of one that is off range, R5.
 use Rattle.std.specs.Prelude.{ℕ, ◌*◌, Bool, true, false, cond, ◌&&◌, [], ◌∷◌, nat_lt, Float, Result, Ok, Err}
 use Rattle.std.specs.Float.{nan, inf, fin}
 use Rattle.std.specs.Float.Ieee.{neg}
@@ -9,6 +9,10 @@ use Rattle.grid.specs.Codes.{Check, or, allowed}
 use Rattle.grid.specs.declared.codes.Refusal.{Refusal}
 use Rattle.grid.specs.declared.codes.Refusal.TheVariants.{BadEstimate}
 use Rattle.units.specs.declared.Units.{Units}
+
+-- R1: a number of the grid
+abbrev pub exactly : ℕ → Units
+exactly n = record { floor = n; ceiling = n }
 
 -- R59: a double, or on the mirror its negative
 abbrev pub mirror_double : Bool → Float → Float

@@ -2,15 +2,26 @@
 #![tactic(auto)]
 
 ghost use Rattle.std.specs.Prelude.{◌≡◌};
-ghost use Rattle.units.specs.Units.{mirror_double, is_below_zero, coded_units};
+ghost use Rattle.units.specs.Units.{exactly, mirror_double, is_below_zero, coded_units};
 
 use grid::Eccentricity;
 
-// A double in units, rounded down and rounded up.
-#[derive(Clone, Copy)]
+// A number in units, rounded down and rounded up: of a whole number of units both are the number itself.
+#[derive(Clone, Copy, Debug, PartialEq, Eq)]
 pub struct Units {
     pub floor: u64,
     pub ceiling: u64,
+}
+
+impl From<u64> for Units {
+    ghost from_gives = { λ n r. r ≡ exactly n };
+
+    fn from(n: u64) -> Self {
+        Units {
+            floor: n,
+            ceiling: n,
+        }
+    }
 }
 
 // 2^28, the units in one radian.

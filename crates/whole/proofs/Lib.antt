@@ -1,6 +1,5 @@
 pub mod Bools
 pub mod First
-pub mod Nested
 pub mod Order
 pub mod Parts
 pub mod CodeRoom

@@ -3,7 +3,7 @@
 use mathlib.Core.Path.{◌≡◌}
 use Prim.Native.Nat.{ℕ, suc, ◌+◌, ◌-◌, ◌*◌, ◌≤◌, ◌<◌}
 use native.Mathlib.Omega.{arith}
-use native.Mathlib.Nat.{div-mul-le_self, lt-div-mul-add, le-div_iff_mul-le, div-lt_iff_lt-mul, le_antisymm, lt_of_lt_of_le, lt_of_not-le, lt_of_mul-lt-mul_right, mul-le-mul_right}
+use native.Mathlib.Nat.{div-mul-le_self, lt-div-mul-add, le-div_iff_mul-le, div-lt_iff_lt-mul, le_antisymm, lt_of_lt_of_le, lt_of_not-le, lt_of_mul-lt-mul_right, mul-le-mul_right, mul-pos}
 use Rattle.whole.specs.Round.{down, up}
 
 -- rounded down, times the divisor: at most what was divided, and less than one divisor short of it
@@ -56,3 +56,19 @@ up_next a d D h =
     let k : down a d < up a d = lt_of_mul-lt-mul_right d (lt_of_lt_of_le h (le_up a d D)) in
     let j = up-le_next a d D in
     omega arith
+
+-- ---- rounding up twice is rounding up once by the product
+
+pub up_up : (a m n : ℕ) → 0 < m → 0 < n → up (up a m) n ≡ up a (m * n)
+up_up a m n hm hn = le_antisymm twice once
+  where
+    once : up a (m * n) ≤ up (up a m) n
+    once =
+        let f = le_up a m hm in
+        let g = mul-le-mul_right m (le_up (up a m) n hn) in
+        up_le (up (up a m) n) a (m * n) (mul-pos hm hn) (omega arith)
+
+    twice : up (up a m) n ≤ up a (m * n)
+    twice =
+        let f = le_up a (m * n) (mul-pos hm hn) in
+        up_le (up a (m * n)) (up a m) n hn (up_le (up a (m * n) * n) a m hm (omega arith))

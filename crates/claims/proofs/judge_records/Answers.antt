@@ -1,5 +1,5 @@
 -- `claims::judge_records` meets its contract: each turn answers one record more, and there are as many turns as records counted.
-use Rattle.std.proofs.Common.{◌≡◌, ◌<◌, ◌∙◌, sym, ap, subst, arith, length, rules}
+use Rattle.std.proofs.Common.{◌≡◌, ◌<◌, ◌∙◌, sym, ap, subst, refl, arith, length, rules}
 use Rattle.claims.specs.Form.{FormIn}
 use Rattle.claims.specs.Batch.{written}
 use Rattle.claims.proofs.BatchCount.{returned, count_is}
@@ -61,11 +61,11 @@ returns-clause-answers_after c =
     let same = (count_is form (length claims) (length answers) (sym c.in_ok-count.was ∙ c.batch_of.ensures)).0 in
     c.loop-i.invariant.so_far.answers_are
     ∙ ap (λ n. written form claims n answers) (sym (same ∙ all))
-    ∙ after_rule form claims answers (returned _ _ _ (sym c.in_ok-count.was ∙ c.batch_of.ensures))
+    ∙ after_rule form claims answers (returned _ _ _ refl (sym c.in_ok-count.was ∙ c.batch_of.ensures))
 
 pub returns-in_err-count-clause-answers_after : goal.returns-in_err-count-clause-answers_after
 returns-in_err-count-clause-answers_after c =
     let form = c.args.form in
     let claims = c.args.claims.now in
     let answers = c.args.answers.now in
-    written_none form claims answers ∙ after_rule form claims answers (returned _ _ _ (sym c.in_err-count.was ∙ c.batch_of.ensures))
+    written_none form claims answers ∙ after_rule form claims answers (returned _ _ _ refl (sym c.in_err-count.was ∙ c.batch_of.ensures))

@@ -9,7 +9,7 @@ use Rattle.units.specs.declared.Units.{Units}
 use Rattle.orbit.specs.Cell.{Cell}
 use Rattle.orbit.specs.Given.{Given, checks_of, mirrored_of, cell_of, coded_cell}
 use Rattle.orbit.specs.declared.pose.Posed.{Posed}
-use Rattle.enclosure.specs.Halving.{Found}
+use Rattle.enclosure.specs.declared.Found.{Found}
 use Rattle.enclosure.specs.Enclosure.{found_lower, found_upper, found_ends}
 use Rattle.distance.specs.Distance.{off_by, units_of, distance_known}
 use Rattle.distance.proofs.posed_off.Goals as goal

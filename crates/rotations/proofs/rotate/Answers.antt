@@ -11,9 +11,8 @@ state_roomy : (m a i : ℕ) {s : State} → a ≤ one → i ≤ fifty → s ≡ 
 state_roomy m a i h k e = rw e (rotations_roomy m a i h k)
 
 pub sign-requires : goal.sign-requires
-sign-requires c =
-    record { state = state_roomy _ _ _ c.requires.shape (omega arith) c.loop-i.invariant; mean = omega arith }
+sign-requires c = state_roomy _ _ _ c.start-s.ensures.shape (omega arith) c.loop-i.invariant
 
 pub turn-s-requires : goal.turn-s-requires
 turn-s-requires c =
-    record { state = state_roomy _ _ _ c.requires.shape (omega arith) c.loop-i.invariant; shift = omega arith }
+    record { state = state_roomy _ _ _ c.start-s.ensures.shape (omega arith) c.loop-i.invariant; shift = omega arith }

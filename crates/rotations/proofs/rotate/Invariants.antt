@@ -4,4 +4,4 @@ use Rattle.rotations.specs.Rotate.{rotations, start}
 use Rattle.rotations.proofs.rotate.Given as goal
 
 abbrev pub invariant-loop-i : goal.invariant-loop-i
-invariant-loop-i l = l.s ≡ rotations l.m l.i (start l.a)
+invariant-loop-i l = l.s ≡ rotations l.m l.i (start l.fn.a)

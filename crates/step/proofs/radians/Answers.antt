@@ -1,10 +1,12 @@
--- `step::radians` meets its contract: the number is read back from the bits of an i64, and a double holds it.
-use Rattle.std.proofs.Common.{ap}
+-- `step::radians` meets its contract: a double holds the number that was biased.
+use Rattle.std.proofs.Common.{w64, FitsSigned, ap, ◌∙◌}
+use mir.Facts.{to_z-of_z}
 use lib.Ieee.{of_bits}
-use Rattle.series.proofs.CodeBias.{unbiased_back}
 use Rattle.step.specs.Step.{in_radians}
 use Rattle.step.proofs.radians.Goals as goal
 
 pub returns : goal.returns
 unfolding of_bits
-returns c = ap in_radians (unbiased_back _ _ c.unbiased.ensures c.requires)
+returns c =
+    let fits : FitsSigned w64 c.value.result = record { sfits = c.value.type_inv } in
+    ap in_radians (to_z-of_z fits ∙ c.value.ensures)

@@ -13,6 +13,6 @@ invariant_of-result c =
     let m = c.args.self.m in
     let e = c.args.self.e in
     let size : c.mirror-size.result ≡ size_of m = rw c.is_below_zero-mirrored.ensures at c.mirror-size.ensures in
-    let (p, f) = made (floor_and_ceiling c.mirror-size.result) (range_check c.mirror-size.result H_units BadM ∷ []) (sym c.in_units.ensures ∙ c.in_ok-mean.was) in
-    let (q, g) = made (floor_and_ceiling e) (range_check e one BadA ∷ []) (sym c.in_units-2.ensures ∙ c.in_ok-shape.was) in
-    rw (c.from-m.ensures, c.from-a.ensures, f, g, size) (cell_in (doubles m e) (rw size at p.0, q))
+    let (p, f) = made (floor_and_ceiling c.mirror-size.result) (range_check c.mirror-size.result H_units BadM ∷ []) (sym c.in_units.ensures ∙ c.in_ok-m.was) in
+    let (q, g) = made (floor_and_ceiling e) (range_check e one BadA ∷ []) (sym c.in_units-2.ensures ∙ c.in_ok-a.was) in
+    rw (f, g, size) (cell_in (doubles m e) (rw size at p.0, q))
