@@ -1,9 +1,9 @@
 -- R51: what a batch returns in each of its cases, and its count. Assumes nothing.
 use mathlib.Core.Path.{◌≡◌, refl, sym, ap}
-use Prim.Native.Nat.{ℕ, ◌*◌, ◌%◌, ◌/◌, ◌≤◌, zero-le}
+use Prim.Native.Nat.{ℕ, ◌*◌, ◌%◌, ◌/◌, ◌≤◌, ◌<◌, zero-le}
 use native.Mathlib.Nat.{div-add-mod'}
 use native.Mathlib.Omega.{arith}
-use borrow.Author.Tests.{eq-eqb, ne_eqb, le-ltb, eqb-true, ltb-false, not-false}
+use borrow.Author.Tests.{eq-eqb, ne_eqb, lt-ltb, le-ltb, eqb-true, ltb-false, not-false}
 use Rattle.std.specs.Prelude.{Result, Ok, Err}
 use Rattle.std.specs.Result.{result_unwrap_or}
 use Rattle.grid.specs.Refuses.{Refuses}
@@ -19,6 +19,12 @@ module _ (form : Form) (bytes room : ℕ) where
   pub rule_length : (bytes % form.width ≡ 0 → ⊥) → batch_with 7 0 ≡ batch_rule form bytes room
   unfolding batch_rule
   rule_length h = simp (ne_eqb _ _ h)
+
+  -- where there are places for fewer answers
+  pub rule_short : bytes % form.width ≡ 0 → room < bytes / form.width
+      → batch_with 8 0 ≡ batch_rule form bytes room
+  unfolding batch_rule
+  rule_short e h = simp (eq-eqb _ _ e, lt-ltb _ _ h)
 
   pub rule_done : bytes % form.width ≡ 0 → bytes / form.width ≤ room
       → batch_with 0 (bytes / form.width) ≡ batch_rule form bytes room
@@ -54,6 +60,12 @@ module _ (form : Form) (bytes room : ℕ) where
   -- every answer has a place
   pub count_fits : (batch_rule form bytes room).count ≤ room
   count_fits = of_batch (λ (r : Batch). r.count ≤ room) zero-le zero-le (λ e h. h)
+
+  -- and every record lies in the claims
+  pub count_inside : (batch_rule form bytes room).count * form.width ≤ bytes
+  count_inside =
+      of_batch (λ (r : Batch). r.count * form.width ≤ bytes) (omega arith) (omega arith)
+      (λ e h. omega (arith, div-add-mod' bytes form.width))
 
   -- R51: with code 0 every claim is counted, and no byte of the claims is left over
   pub done_count : (batch_rule form bytes room).code ≡ 0 → (batch_rule form bytes room).count * form.width ≡ bytes

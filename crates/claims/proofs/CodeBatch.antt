@@ -31,7 +31,7 @@ module _ (form : Form) (claims before : List ℕ) where
       }
 
   -- one answer more
-  written_more : (n : ℕ) → n < length before
+  pub written_more : (n : ℕ) → n < length before
       → set (written form claims n before) n (answer_at form claims n) ≡ written form claims (n + 1) before
   unfolding up_to
   written_more n h =

@@ -4,7 +4,7 @@ use mathlib.Core.Bool.{Bool, true, not}
 use Prim.Native.Nat.{ℕ, ◌*◌, ◌%◌, ◌≤◌, ◌<◌}
 use borrow.Author.Tests.{lt-ltb, le-ltb}
 use lib.Dec.{T}
-use lib.Ieee.{Float, nan, inf, fin, binary64, of_bits, is_nan, nan_bits, ones, hid, top}
+use lib.Ieee.{Float, nan, inf, fin, binary64, of_bits, is_nan, nan_bits, div, ones, hid, top}
 use lib.Ieee.Bits.{nan_bits_is, nan_bits_above}
 
 only_nan : (x : Float) → is_nan x ≡ true → x ≡ nan
@@ -21,6 +21,11 @@ nan_pattern n h =
 pub no_nan_pattern : (n : ℕ) → n % top binary64 ≤ ones binary64 * hid binary64 → T (not (nan_bits binary64 n))
 no_nan_pattern n h =
     subst (λ (b : Bool). T (not b)) (sym (nan_bits_above binary64 n ∙ le-ltb _ _ h)) tt
+
+-- 0 by 0
+pub zero_by_zero : div binary64 (of_bits binary64 0) (of_bits binary64 0) ≡ nan
+unfolding div of_bits
+zero_by_zero = refl
 
 -- the library's NaN, by its pattern
 pub library_nan : of_bits binary64 9221120237041090560 ≡ nan

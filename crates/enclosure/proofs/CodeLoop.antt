@@ -1,6 +1,6 @@
 -- What a search's loop keeps, for any test and any top up to 2^30: the turns left lead to the search's last bracket.
 -- Nothing in it speaks of what is accepted. Assumes nothing.
-use mathlib.Core.Path.{◌≡◌, sym, ◌∙◌}
+use mathlib.Core.Path.{◌≡◌, refl, sym, ◌∙◌}
 use mathlib.Core.Bool.{Bool, true, false}
 use Prim.Native.Nat.{ℕ, ◌+◌, ◌-◌, ◌/◌, ◌≤◌, ◌<◌}
 use native.Mathlib.Omega.{arith}
@@ -13,6 +13,10 @@ pub record Going (acc : ℕ → Bool) (top p q : ℕ) : Type 0 where
   pub order : p < q
   pub high : q ≤ top
   pub rest : turns acc 30 (record { p = p; q = q }) ≡ last_bracket acc top
+
+-- where a search begins
+pub start : (acc : ℕ → Bool) (top : ℕ) → 0 < top → Going acc top 0 top
+start acc top h = record { order = h; high = omega arith; rest = refl }
 
 module _ {acc : ℕ → Bool} {top p q : ℕ} (g : Going acc top p q) (small : top ≤ 1073741824) where
   -- the bracket after one turn has the same turns left

@@ -3,13 +3,14 @@
 use mathlib.Core.Path.{◌≡◌, refl, ap, ap₂, subst, sym, ◌∙◌}
 use mathlib.Core.Bool.{Bool, true, false, not, cond, ◌&&◌, true≢false}
 use mathlib.Core.Logic.{◌↔◌}
-use Prim.Native.Nat.{ℕ, suc, ◌+◌, ◌*◌, ◌≤◌}
+use Prim.Native.Nat.{ℕ, zero, suc, ◌+◌, ◌*◌, ◌≤◌}
 use native.Mathlib.Omega.{arith}
+use native.Mathlib.Nat.{mul-le-mul_left}
 use lib.Dec.{T, T_not, not_T}
 use lib.IntN.{ℤ}
 use Rattle.std.specs.Prelude.{Option, Some, None}
 use Rattle.whole.proofs.Bools.{alike, by_meaning, passed, passes, fails, both, both_parts}
-use Rattle.grid.specs.Grid.{one, T_units, depths}
+use Rattle.grid.specs.Grid.{one, H_units, T_units, depths}
 use Rattle.series.specs.Sine.{sine}
 use Rattle.series.specs.Walk.{bias, biased, walk, spent_at}
 use Rattle.series.specs.declared.Walk.{Walk}
@@ -22,9 +23,9 @@ use Rattle.series.proofs.CodeStop.{spent_walk}
 use Rattle.orbit.specs.Cell.{Orbit, orbit_at, Cell}
 use Rattle.ends.specs.Ends.{below_at, above_at, below_by, above_by, end_by, bound_of, end_at}
 use Rattle.ends.specs.Corner as by
-use Rattle.ends.specs.Corner.{Corner, corner_of, AtDepth, said, test_by, own_mean, at_depth}
+use Rattle.ends.specs.Corner.{Corner, CornerIn, corner_of, AtDepth, said, test_by, own_mean, at_depth}
 use Rattle.ends.proofs.InNaturals.{below_test, above_test}
-use Rattle.ends.specs.Least.{depth_or_none, from_least}
+use Rattle.ends.specs.Least.{least_depth, depth_or_none, from_least}
 use Rattle.ends.proofs.Least.{none, found}
 use Rattle.ends.proofs.Corners.{NoWorse, below_corners, above_corners, better, deeper, spent_alike}
 
@@ -132,11 +133,23 @@ module _ (upper : Bool) (least most : Corner) (w : Walk) where
   abbrev now : AtDepth
   now = at_walk upper least most w
 
+  with_least : Bool → AtDepth
+  with_least t = record { settles = cond t most_passes (not other_passes); accepts = t && most_passes }
+
+  -- what the depth says where the least corner passes, and where it fails
+  pub least_passed : {r : Bool} → least_passes ≡ true → r ≡ most_passes → ◌≡◌ {A = AtDepth} record { settles = r; accepts = r } now
+  unfolding with_least
+  least_passed p q = ap (λ (t : Bool). record { settles = t; accepts = t }) q ∙ ap with_least (sym p)
+
+  pub least_failed : {r : Bool} → least_passes ≡ false → r ≡ other_passes → ◌≡◌ {A = AtDepth} record { settles = not r; accepts = false } now
+  unfolding with_least
+  least_failed p q = ap (λ (t : Bool). record { settles = not t; accepts = false }) q ∙ ap with_least (sym p)
+
   now_settled : (r : Bool) → now.settles ≡ true → (true ≡ now.accepts → true ≡ r) → (other_passes ≡ false → false ≡ r) → now.accepts ≡ r
   now_settled r = settled least_passes most_passes other_passes r
 
   -- what doesn't settle doesn't accept
-  now_unsettled : now.settles ≡ false → now.accepts ≡ false
+  pub now_unsettled : now.settles ≡ false → now.accepts ≡ false
   now_unsettled = unsettled least_passes most_passes other_passes
 
 -- no depth up to n accepts
@@ -159,6 +172,10 @@ module _ (X : ℕ) (x : X ≤ T_units) (w : Walk) (n : ℕ) (at : w ≡ walk sin
   -- a walk's bound is one, whichever end it is for
   pub bound_in : (upper : Bool) → own_bound upper w ≤ 2 * bias
   bound_in upper = rw (walk_bound upper w X n at) (biased_small (bound_of upper X (suc n)) (in_bounds upper))
+
+  -- so the tests of a corner may be made
+  pub walk_in : (m a : ℕ) → m ≤ H_units → a ≤ one → CornerIn (corner_of (orbit_at m a) X) × ((upper : Bool) → own_bound upper w ≤ 2 * bias)
+  walk_in m a h k = (record { shape = k; mean = mul-le-mul_left one h }, bound_in)
 
   corner_test : (upper side : Bool) (o : Orbit) → test_by upper (corner_of o X) (own_bound side w) ≡ grid_by upper o X (bound_of side X (suc n))
   corner_test upper side o =
@@ -191,34 +208,60 @@ module _ (X : ℕ) (x : X ≤ T_units) (w : Walk) (n : ℕ) (at : w ≡ walk sin
         (λ t. passes (end_at upper c d X) (deeper upper c X k (passed (end_at upper c (suc n) X) (t ∙ own_test))))
         (λ f. other_test f d j)
 
-    -- ---- what that depth said, where no lesser one accepts
+    -- ---- what that depth said
 
-    -- an end that it accepts it is the least to accept, which every greater depth reports
-    pub least_found : NoneTo upper c X n → now_at.settles ≡ true → now_at.accepts ≡ true
-        → (d : ℕ) → suc n ≤ d → d ≤ depths → Some (suc n) ≡ from_least (λ l. end_at upper c l X) d
-    least_found before e t d k j =
+    -- the first depth that accepts is the least, which every greater depth reports
+    pub reports : now_at.accepts ≡ true → NoneTo upper c X n → (d : ℕ) → suc n ≤ d → least_depth (λ l. end_at upper c l X) d ≡ suc n
+    reports t before d k =
         let here = passed (end_at upper c (suc n) X) (sym t ∙ own_test) in
-        sym (ap depth_or_none (found (λ l. end_at upper c l X) d (suc n) (record {
+        found (λ l. end_at upper c l X) d (suc n) (record {
           some = omega arith;
           few = k;
           here = here;
           last = deeper upper c X k here;
           before = λ l s f. before l s (omega arith);
-        })))
+        })
 
-    -- what it rules out no depth accepts
-    pub ruled_out : now_at.settles ≡ true → now_at.accepts ≡ false
+    -- as it is handed on
+    pub least_found : NoneTo upper c X n → now_at.accepts ≡ true → (d : ℕ) → suc n ≤ d → Some (suc n) ≡ from_least (λ l. end_at upper c l X) d
+    least_found before t d k = sym (ap depth_or_none (reports t before d k))
+
+    module _ (e : now_at.accepts ≡ false) where
+      -- what isn't accepted is accepted at no greater depth either, where the tests settle it
+      pub ruled_out : now_at.settles ≡ true → (d : ℕ) → suc n ≤ d → d ≤ depths → end_at upper c d X ≡ false
+      ruled_out t d k j = sym (settles_on t d k j) ∙ e
+
+      -- where this is the last depth
+      pub refused_last : (d : ℕ) → suc n ≡ d → end_at upper c d X ≡ false
+      refused_last d h = ap (λ (l : ℕ). end_at upper c l X) (sym h) ∙ sym own_test ∙ e
+
+      -- and where the terms are spent
+      pub refused_spent : spent_at w ≡ true → (d : ℕ) → suc n ≤ d → end_at upper c d X ≡ false
+      refused_spent t d k = spent_alike upper c X (spent_walk sine w X (suc n) at t) (omega arith) d k ∙ refused_last (suc n) refl
+
+      -- nor at a lesser one
+      none_so_far : NoneTo upper c X (suc n)
+      none_so_far l s f = not_T (end_at upper c l X) (λ t. subst T (refused_last (suc n) refl) (deeper upper c X f t))
+
+    -- what it rules out is reported by no depth
+    pub none_later : now_at.settles ≡ true → now_at.accepts ≡ false
         → (d : ℕ) → suc n ≤ d → d ≤ depths → None ≡ from_least (λ l. end_at upper c l X) d
-    ruled_out e f d k j = not_found (λ l. end_at upper c l X) d (sym (settles_on e d k j) ∙ f)
+    none_later e f d k j = not_found (λ l. end_at upper c l X) d (ruled_out f e d k j)
 
     module _ (e : now_at.settles ≡ false) where
-      refused : end_at upper c (suc n) X ≡ false
-      refused = sym own_test ∙ now_unsettled upper (least_corner upper c X) (most_corner upper c X) w e
+      refuses : now_at.accepts ≡ false
+      refuses = now_unsettled upper (least_corner upper c X) (most_corner upper c X) w e
 
       -- what it doesn't settle no depth up to it accepts
       pub none_to : NoneTo upper c X (suc n)
-      none_to l s f = not_T (end_at upper c l X) (λ t. subst T refused (deeper upper c X f t))
+      none_to = none_so_far refuses
 
       -- and where the terms are spent no greater one does
-      pub refused_spent : spent_at w ≡ true → (d : ℕ) → suc n ≤ d → None ≡ from_least (λ l. end_at upper c l X) d
-      refused_spent t d k = not_found (λ l. end_at upper c l X) d (spent_alike upper c X (spent_walk sine w X (suc n) at t) (omega arith) d k ∙ refused)
+      pub none_spent : spent_at w ≡ true → (d : ℕ) → suc n ≤ d → None ≡ from_least (λ l. end_at upper c l X) d
+      none_spent t d k = not_found (λ l. end_at upper c l X) d (refused_spent refuses t d k)
+
+-- where the walk's last depth didn't accept, no depth up to it does
+pub none_before : (X : ℕ) → X ≤ T_units → (n : ℕ) → n ≤ depths → (v : Walk) → v ≡ walk sine X n → (c : Cell) (upper : Bool)
+    → (1 ≤ n → (at_walk upper (least_corner upper c X) (most_corner upper c X) v).accepts ≡ false) → NoneTo upper c X n
+none_before X x zero few v at c upper h = λ l s f. absurd (let z : ⊥ = omega arith in z)
+none_before X x (suc n) few v at c upper h = none_so_far X x v n at few upper c (h (omega arith))

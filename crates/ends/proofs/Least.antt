@@ -10,7 +10,7 @@ use borrow.Author.Tests.{ne_eqb}
 use lib.Dec.{T, eqb, T_not, not_T}
 use Rattle.std.specs.Prelude.{Option, is_some}
 use Rattle.whole.specs.First.{first_from}
-use Rattle.whole.proofs.Bools.{passed, passes}
+use Rattle.whole.proofs.Bools.{passed, passes, fails}
 use Rattle.whole.proofs.First.{first, only}
 use Rattle.ends.specs.Least.{least_depth, depth_or_none, from_least}
 
@@ -72,6 +72,10 @@ module _ (test : ℕ → Bool) (d : ℕ) where
   unfolding least_depth chosen
   there k e = ap (λ (i : ℕ). not (eqb i 0)) e ∙ nonzero (test d)
 
+  -- so where there is none, the last depth fails
+  pub says_none : least_depth test d ≡ 0 → test d ≡ false
+  says_none e = sym (there 0 (sym e))
+
   -- and so it is of one that is handed on
   pub handed_on : (o : Option ℕ) → o ≡ from_least test d → is_some o ≡ test d
   handed_on o e = ap is_some e ∙ by_number (least_depth test d) ∙ there (least_depth test d) refl
@@ -82,10 +86,17 @@ module _ (test : ℕ → Bool) (d : ℕ) where
 
 -- ---- two tests
 
--- a test after a first one that no depth changes, which failed
+-- a test after a first one that no depth changes, which passed or failed
+pub then_least : (g : Bool) (test : ℕ → Bool) (d : ℕ) {r : ℕ} → g ≡ true → r ≡ least_depth test d → r ≡ least_depth (λ l. g && test l) d
+then_least g test d e h = h ∙ sym (ap (λ (t : Bool). least_depth (λ l. t && test l) d) e)
+
 pub else_least : (g : Bool) (test : ℕ → Bool) (d : ℕ) → g ≡ false → 0 ≡ least_depth (λ l. g && test l) d
 unfolding least_depth
 else_least g test d e = sym (ap (λ (t : Bool). least_depth (λ l. t && test l) d) e)
+
+-- a test that asks for another, which the last depth fails
+pub none_by : (test other : ℕ → Bool) (d : ℕ) → (T (test d) → T (other d)) → least_depth other d ≡ 0 → 0 ≡ least_depth test d
+none_by test other d asks e = sym (none test d (sym (fails (test d) (λ t. subst T (says_none other d e) (asks t)))))
 
 -- where a test is two others, of which the one is kept by depth: they pass from the later of their least depths on
 pub later : (test one other : ℕ → Bool) → ((l : ℕ) → T (test l) ↔ T (one l) × T (other l)) → ((l k : ℕ) → l ≤ k → T (one l) → T (one k))

@@ -3,6 +3,7 @@ use mathlib.Core.Path.{◌≡◌, refl, subst}
 use mathlib.Core.Bool.{true, false}
 use mathlib.Core.List.{[], ◌∷◌}
 use Prim.Native.Nat.{ℕ, ◌≤◌}
+use native.Mathlib.Omega.{arith}
 use lib.Dec.{T, lit≤, lit<}
 use Rattle.whole.proofs.Bools.{not_failed}
 use Rattle.grid.specs.Flyby.{X_top, flyby_checks}
@@ -10,17 +11,33 @@ use Rattle.grid.specs.Refuses.{Refuses}
 use Rattle.grid.proofs.FirstCode.{goes, split}
 use Rattle.grid.proofs.Refuses.{makes}
 use Rattle.enclosure.specs.declared.Enclosure.{Enclosure}
+use Rattle.enclosure.specs.Halving.{searched}
 use Rattle.enclosure.specs.Enclosure.{refusal}
+use Rattle.enclosure.specs.Moves.{EndsIn}
+use Rattle.enclosure.proofs.CodeAnswer.{searched_in}
 use Rattle.enclosure.proofs.Searches.{LowerFound, UpperFound, lower_found, upper_found}
 use Rattle.flyby.specs.Ends.{end_at}
 use Rattle.flyby.specs.Posed.{FlybyIn}
 use Rattle.flyby.proofs.Posed.{flyby_in}
 use Rattle.flyby.proofs.Exact.{apart, zero_lower, top_never}
-use Rattle.flyby_enclosure.specs.Enclosure.{top_check, enclosure_checks, found_lower, found_upper, enclosed, enclosure_rule}
+use Rattle.flyby_enclosure.specs.Enclosure.{top_check, enclosure_checks, found_lower, found_upper, found_ends, enclosed, enclosure_rule}
 
 pub enclosures : (m b : ℕ) → Refuses (enclosure_checks m b) (λ (e : Enclosure). e.code) refusal (enclosure_rule m b)
 unfolding enclosure_rule
 enclosures m b = makes (enclosure_checks m b) (λ (e : Enclosure). e.code) refusal (enclosed m b) refl (λ k. refl) tt
+
+-- both searches find both ends, which lie from 0 to T, whatever is accepted
+pub found_is : (m b : ℕ) → searched (end_at false m b) (end_at true m b) X_top ≡ found_ends m b
+unfolding found_lower found_upper
+found_is m b = refl
+
+pub ends_in : (m b : ℕ) → EndsIn (found_lower m b) (found_upper m b)
+unfolding found_lower found_upper
+ends_in m b =
+    let w = searched_in (end_at false m b) (end_at true m b) X_top (lit< tt) in
+    let l = w.0 in
+    let u = w.1 in
+    record { lower = omega arith; upper = omega arith }
 
 -- R88: what code 0 says: M and B are within their limits, and the top is an upper end
 pub record CodeZero (m b : ℕ) : Type 0 where

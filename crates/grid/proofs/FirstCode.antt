@@ -1,16 +1,18 @@
 -- What the answer to a call's checks says: a value where all of them passed, and else the first that failed; and of checks one after
 -- the other. Assumes nothing.
-use mathlib.Core.Path.{◌≡◌, refl, ap, ◌∙◌, subst}
+use mathlib.Core.Path.{◌≡◌, refl, sym, ap, ◌∙◌, subst}
 use mathlib.Core.Bool.{Bool, true, false, not, cond}
 use mathlib.Core.List.{List, [], ◌∷◌, ◌++◌}
 use mathlib.Core.Logic.{inl, inr}
-use Prim.Native.Nat.{ℕ}
-use lib.Dec.{T, T_not, ltb, eqb}
+use Prim.Native.Nat.{ℕ, ◌<◌}
+use native.Mathlib.Omega.{arith}
+use borrow.Author.Tests.{ne_eqb, eqb-true, eqb-false}
+use lib.Dec.{T, T_not, ltb, eqb, ltb→lt}
 use lib.Ieee.Fits.{eq→eqb}
 use Rattle.std.specs.Prelude.{Result, Ok, Err, MatchResult}
 use Rattle.std.proofs.lemmas.Result.{MatchResult-at_ok, MatchResult-at_err, MatchResult-weaker}
 use Rattle.whole.proofs.Bools.{both_parts}
-use Rattle.grid.specs.Codes.{Code, done, Check, number, failed, first_code, checked, allowed, answer, Passed}
+use Rattle.grid.specs.Codes.{Code, done, Check, number, failed, first_code, earlier, checked, allowed, answer, Passed}
 use Rattle.grid.specs.Refuses.{FirstFails, all}
 use Rattle.grid.specs.declared.codes.Refusal.{Refusal}
 
@@ -18,11 +20,38 @@ use Rattle.grid.specs.declared.codes.Refusal.{Refusal}
 abbrev pub coded : List Check → Bool
 coded cs = all (λ (c : Check). ltb 0 (number (failed c.code))) cs
 
+-- n is the code of a call with these checks
+abbrev pub CodeOf : List Check → ℕ → Type 0
+CodeOf cs n = n ≡ number (first_code cs)
+
 -- where all checks pass, any answer that begins with them goes on
 pub goes : {A : Type 0} (cs : List Check) → Passed cs → (zeros : ℕ → A) (given : A) → checked cs zeros given ≡ given
 goes [] p zeros given = refl
 goes {A} (c ∷ cs) p zeros given =
     ap (λ (t : Bool). cond t (zeros (number (failed c.code))) (checked cs zeros given)) p.0 ∙ goes cs p.1 zeros given
+
+-- where the code is not 0, any answer that begins with them is refused with it
+pub stops : {A : Type 0} (cs : List Check) (n : ℕ) → CodeOf cs n → (n ≡ 0 → ⊥) → (zeros : ℕ → A) (given : A)
+    → checked cs zeros given ≡ zeros n
+stops [] n e some zeros given = absurd (some e)
+stops {A} (c ∷ cs) n e some zeros given = step c.fails (λ h. stops cs n h some zeros given) e
+  where
+    step : (t : Bool) → (CodeOf cs n → checked cs zeros given ≡ zeros n) → n ≡ number (cond t (failed c.code) (first_code cs))
+        → cond t (zeros (number (failed c.code))) (checked cs zeros given) ≡ zeros n
+    step true rest h = ap zeros (sym h)
+    step false rest h = rest h
+
+-- where it is 0, all checks passed
+pub passed : (cs : List Check) → T (coded cs) → (n : ℕ) → CodeOf cs n → n ≡ 0 → Passed cs
+passed [] t n e z = tt
+passed (c ∷ cs) t n e z =
+    let (some, named) = both_parts (ltb 0 (number (failed c.code))) (coded cs) t in
+    step c.fails refl (ltb→lt 0 (number (failed c.code)) some) (λ h. passed cs named n h z) e
+  where
+    step : (f : Bool) → c.fails ≡ f → 0 < number (failed c.code) → (CodeOf cs n → Passed cs)
+        → n ≡ number (cond f (failed c.code) (first_code cs)) → Passed (c ∷ cs)
+    step true p some rest h = absurd (let w : ⊥ = omega arith in w)
+    step false p some rest h = (p, rest h)
 
 -- the code of a refusal is no other's
 abbrev of_code : Refusal → Code → Refusal
@@ -94,6 +123,26 @@ pub answered : {A B : Type 0} (zeros : ℕ → B) (given : A → B) (value : A) 
 answered zeros given value cs said known = said ∙ ap (answer zeros given) known ∙ answers zeros given value cs
 
 -- ---- lists of checks
+
+-- checks one after the other: the second code counts where the first is 0
+pub in_turn : (cs ds : List Check) → T (coded cs) → (j k : ℕ) → CodeOf cs j → (j ≡ 0 → CodeOf ds k) → CodeOf (cs ++ ds) (earlier j k)
+in_turn [] ds t j k e f = rw e (f e)
+in_turn (c ∷ cs) ds t j k e f =
+    let (some, named) = both_parts (ltb 0 (number (failed c.code))) (coded cs) t in
+    step c.fails (ltb→lt 0 (number (failed c.code)) some) (λ h. in_turn cs ds named j k h f) e
+  where
+    step : (b : Bool) → 0 < number (failed c.code) → (CodeOf cs j → CodeOf (cs ++ ds) (earlier j k))
+        → j ≡ number (cond b (failed c.code) (first_code cs)) → earlier j k ≡ number (cond b (failed c.code) (first_code (cs ++ ds)))
+    step true some rest h = rw (ne_eqb j 0 (λ z. let w : ⊥ = omega arith in w)) h
+    step false some rest h = rest h
+
+-- with no code neither had one
+pub neither_code : (j k : ℕ) → earlier j k ≡ 0 → (j ≡ 0) × (k ≡ 0)
+neither_code j k e = by (eqb j 0) refl e
+  where
+    by : (t : Bool) → eqb j 0 ≡ t → cond t k j ≡ 0 → (j ≡ 0) × (k ≡ 0)
+    by true p h = (eqb-true j 0 p, h)
+    by false p h = absurd (eqb-false j 0 p h)
 
 pub split : (cs ds : List Check) → Passed (cs ++ ds) → Passed cs × Passed ds
 split [] ds p = (tt, p)

@@ -1,18 +1,23 @@
 -- What a check that passed says of its number. Assumes nothing.
 use mathlib.Core.Path.{◌≡◌, refl}
 use mathlib.Core.Bool.{Bool, true, false}
+use mathlib.Core.List.{[], ◌∷◌}
 use Prim.Native.Nat.{ℕ, ◌≤◌}
 use borrow.Author.Tests.{ltb-false, le-ltb}
 use lib.IntN.{ℤ, nat_abs}
 use Rattle.whole.specs.Sign.{negative}
 use Rattle.grid.specs.Grid.{T_units, depths}
-use Rattle.grid.specs.Codes.{or, limit_check, span_check, depth_check, signed_x_check}
+use Rattle.grid.specs.Codes.{Passed, or, limit_check, span_check, x_check, depth_check, signed_x_check}
 use Rattle.grid.specs.Limits.{DepthIn}
 use Rattle.grid.specs.declared.codes.Refusal.{Refusal}
-use Rattle.grid.specs.declared.codes.Refusal.TheVariants.{BadDepth}
+use Rattle.grid.specs.declared.codes.Refusal.TheVariants.{BadDepth, BadX}
 
 pub limit_fits : (n limit : ℕ) (k : Refusal) → (limit_check n limit k).fails ≡ false → n ≤ limit
 limit_fits n limit k e = ltb-false limit n e
+
+-- an angle whose check passed is within its limit
+pub angle_in : (x : ℕ) → Passed (x_check x ∷ []) → x ≤ T_units
+angle_in x p = limit_fits x T_units BadX p.0
 
 neither : (s t : Bool) → or s t ≡ false → (s ≡ false) × (t ≡ false)
 neither true t e = (e, cc)

@@ -12,7 +12,8 @@ use Rattle.grid.specs.Codes.{Code, Check, number, failed, numbered_in, order, fi
 use Rattle.grid.specs.declared.codes.Refusal.{Refusal}
 use Rattle.grid.specs.declared.codes.Refusal.TheVariants.{BadM, BadA, BadDepth, BadEstimate, BadN, NoUpperEnd, BadLength, ShortAnswers, BadReserved, BadX, NoFlybyEnd, BadMethod}
 use Rattle.grid.specs.Refuses.{FirstFails, Refuses}
-use Rattle.grid.proofs.FirstCode.{coded, goes}
+use Rattle.grid.proofs.FirstCode.{coded, CodeOf, goes, neither_code}
+use Rattle.grid.proofs.FirstCode as codes
 
 module _ {A : Type 0} (code : A → ℕ) (zeros : ℕ → A) where
   -- one check more: it fails, or the rest answers
@@ -151,6 +152,29 @@ in_turn (c ∷ cs) ds = step c.fails (in_turn cs ds)
         ≡ earlier (number (cond b (failed c.code) (first_code cs))) (number (first_code ds))
     step true rest = rw (not_zero c.code) refl
     step false rest = rest
+
+-- n is the code of these checks, and where it is 0 a value is known
+pub record Says (cs : List Check) (n : ℕ) (Known : Type 0) : Type 0 where
+  pub code_is : CodeOf cs n
+  pub made : n ≡ 0 → Known
+
+-- so it is of an answer by them, and what is known is that it is what is given
+pub says : {A : Type 0} {cs : List Check} {code : A → ℕ} {zeros : ℕ → A} {given : A} → Refuses cs code zeros (checked cs zeros given)
+    → (r : A) → r ≡ checked cs zeros given → Says cs (code r) (r ≡ given)
+says {A} {cs} {code} {zeros} {given} demand r e =
+    record {
+      code_is = ap code e ∙ demand.named;
+      made = λ z. e ∙ goes cs (demand.passed.0 (sym (ap code e) ∙ z)) zeros given;
+    }
+
+-- checks one after the other: what the second says counts where the first had no code
+pub then : {cs ds : List Check} {j k : ℕ} {Left Right : Type 0} → T (coded cs) → Says cs j Left → (j ≡ 0 → Says ds k Right)
+    → (n : ℕ) → n ≡ earlier j k → Says (cs ++ ds) n (Left × Right)
+then {cs} {ds} {j} {k} t s r n e =
+    record {
+      code_is = e ∙ codes.in_turn cs ds t j k s.code_is (λ z. (r z).code_is);
+      made = λ z. let w = neither_code j k (sym e ∙ z) in (s.made w.0, (r w.0).made w.1);
+    }
 
 -- a function of an answer is an answer with that function of each refusal, and of what is given
 pub through : {A B : Type 0} (f : A → B) (zeros : ℕ → A) (given : A) (cs : List Check)

@@ -43,6 +43,11 @@ module _ (k : Claim) where
   unfolding judge_rule
   claims = makes (claim_checks k) (λ (j : Judged). j.code) unjudged (verdict (case_verdict (case_at k))) refl (λ n. refl) tt
 
+  -- what settles it by the depths up to its own refuses by the same checks
+  pub settled_claims : Refuses (claim_checks k) (λ (s : Settled). s.code) unsettled (settled_rule k)
+  unfolding settled_rule
+  settled_claims = makes (claim_checks k) (λ (s : Settled). s.code) unsettled (settled_by (case_at k)) refl (λ n. refl) tt
+
   -- a claim whose checks pass is within every limit
   pub case_in : Passed (claim_checks k) → CaseIn (case_at k)
   case_in p =

@@ -2,7 +2,7 @@
 -- depth's. Assumes nothing.
 use mathlib.Core.Path.{◌≡◌, refl, sym, ap, ap₂, subst}
 use mathlib.Core.Bool.{Bool, true, false, not, cond, ◌||◌}
-use mathlib.Core.Logic.{inl, inr, ⊎_elim}
+use mathlib.Core.Logic.{◌⊎◌, inl, inr, ⊎_elim}
 use Prim.Native.Nat.{ℕ, ◌+◌, ◌-◌, ◌≤◌, ◌<◌}
 use native.Mathlib.Omega.{arith}
 use native.Mathlib.Nat.{eq-or-lt_of_le}
@@ -27,6 +27,7 @@ use Rattle.judge.specs.Decision.{decided, decided_by, decision}
 use Rattle.judge.specs.Limits.{CaseIn}
 use Rattle.judge.specs.declared.Verdict.{Verdict}
 use Rattle.judge.specs.declared.Verdict.TheVariants.{Confirmed, Refuted, Undecided}
+use Rattle.judge.proofs.Verdicts as verdicts
 use Rattle.judge.proofs.Decides.{not_last, is_least, decided-verdict}
 use Rattle.judge.proofs.Kept.{confirmed_deeper, above_deeper, below_deeper, never_both, confirmed_kept, refuted_kept}
 
@@ -148,6 +149,15 @@ module _ (c : Cell) (u : Units) (n : ℕ) where
             below = λ t. clash (either (lower_above c l u n) (upper_below c l u n) (inr t));
           })
           (λ i. confirmed-decides k h.here)
+
+  -- ---- the verdict where an end refutes, and where nothing decides
+
+  module _ (d : ℕ) (p : confirmed c d u n ≡ false) where
+    pub refuted-verdict : T (lower_above c d u n) ⊎ T (upper_below c d u n) → verdict_of c d u n ≡ Refuted
+    refuted-verdict = verdicts.refuted-verdict (tests_at c d) u n p
+
+    pub no_verdict : lower_above c d u n ≡ false → upper_below c d u n ≡ false → verdict_of c d u n ≡ Undecided
+    no_verdict = verdicts.no_verdict (tests_at c d) u n p
 
   -- ---- what decides is kept
 

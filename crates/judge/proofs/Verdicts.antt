@@ -213,3 +213,9 @@ one-verdict Refuted Confirmed e = absurd (let z : ⊥ = omega arith in z)
 one-verdict Refuted Undecided e = absurd (let z : ⊥ = omega arith in z)
 one-verdict Undecided Confirmed e = absurd (let z : ⊥ = omega arith in z)
 one-verdict Undecided Refuted e = absurd (let z : ⊥ = omega arith in z)
+
+-- and small
+pub verdict_small : (v : Verdict) → verdict_number v ≤ 18
+verdict_small Confirmed = omega arith
+verdict_small Refuted = omega arith
+verdict_small Undecided = omega arith

@@ -1,8 +1,9 @@
--- Little-endian numbers digit by digit: how large they can be, and that bytes read from the highest on make them. Assumes nothing.
+-- Little-endian numbers digit by digit: a byte more, how large they can be, and that bytes read from the highest on make them.
+-- Assumes nothing.
 use mathlib.Core.Path.{◌≡◌, refl}
 use mathlib.Core.List.{List, reverse, reverse-cons}
 use Prim.Native.Nat.{ℕ, zero, suc, ◌+◌, ◌*◌, ◌^◌, ◌%◌, ◌≤◌, ◌<◌}
-use native.Mathlib.Nat.{lt_of_lt_of_le}
+use native.Mathlib.Nat.{add-zero, lt_of_lt_of_le}
 use native.Mathlib.Numerals.{add-one}
 use native.Mathlib.Omega.{arith}
 use lib.Dec.{lit≤}
@@ -30,6 +31,16 @@ put-below number byte room small = rw (shl_exact {a = number} 56 8 64 room (lit�
 pub one_byte : (bytes : List ℕ) (at : ℕ) → little_endian bytes at 1 ≡ get_or bytes at 0
 unfolding little_endian
 one_byte bytes at = omega arith
+
+-- the byte after a number's bytes stands above them
+pub one_more : (bytes : List ℕ) (at width : ℕ)
+    → little_endian bytes at (suc width) ≡ little_endian bytes at width + get_or bytes (at + width) 0 * 2 ^ (8 * width)
+unfolding little_endian
+one_more bytes at zero = rw (add-zero at) (omega arith)
+one_more bytes at (suc width) =
+    let later : at + 1 + width ≡ at + suc width = omega arith in
+    let rest = one_more bytes (at + 1) width in
+    rw (eight_more, ← later) (omega arith)
 
 module _ (bytes : List ℕ) (small : (i : ℕ) → get_or bytes i 0 < 256) where
   -- so many bytes hold no greater number

@@ -1,13 +1,19 @@
 -- The smallest number that passes a test is the first from 0 on, and there is only one. Assumes nothing.
-use mathlib.Core.Path.{◌≡◌}
-use mathlib.Core.Bool.{Bool}
-use Prim.Native.Nat.{ℕ, ◌<◌}
+use mathlib.Core.Path.{◌≡◌, sym, subst}
+use mathlib.Core.Bool.{Bool, not}
+use mathlib.Core.Logic.{⊎_elim}
+use Prim.Native.Nat.{ℕ, ◌≤◌, ◌<◌}
 use native.Mathlib.Omega.{arith}
-use native.Mathlib.Nat.{lt_of_not-le}
+use native.Mathlib.Nat.{eq-or-lt_of_le, lt_of_not-le}
 use lib.Dec.{T, T_not}
 use Rattle.whole.specs.First.{first_from}
 use Rattle.whole.proofs.First as numbers
 use Rattle.proposal.specs.Certify.{Smallest}
+
+-- what fails at i, and passes at k, which is i or above: k is above
+pub above : (test : ℕ → Bool) {i k : ℕ} → i ≤ k → T (not (test i)) → T (test k) → i < k
+above test {i} {k} h p t =
+    ⊎_elim (λ e. absurd (T_not (test i) p (subst (λ (m : ℕ). T (test m)) (sym e) t))) (λ l. l) (eq-or-lt_of_le h)
 
 -- where some number below n passes, the search gives the smallest
 pub smallest : (test : ℕ → Bool) (n k : ℕ) → k < n → T (test k) → Smallest test n (first_from test 0 n)

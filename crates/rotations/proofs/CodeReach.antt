@@ -61,7 +61,8 @@ start_reached a h =
       sine = omega arith;
     }
 
-reached : (m a n : ℕ) → a ≤ one → n ≤ fifty → Reached n (rotations m n (start a))
+-- so after n rotations a state is within what n of them reach
+pub reached : (m a n : ℕ) → a ≤ one → n ≤ fifty → Reached n (rotations m n (start a))
 unfolding rotations
 reached m a zero h k = start_reached a h
 reached m a (suc n) h k =
@@ -77,7 +78,8 @@ last : reach fifty ≤ room
 unfolding reach
 last = lit≤ tt
 
-roomy : {n : ℕ} {s : State} → n ≤ fifty → Reached n s → RoomyState s
+-- which has room
+pub roomy : {n : ℕ} {s : State} → n ≤ fifty → Reached n s → RoomyState s
 roomy {n} {s} k w =
     let b : reach n ≤ reach (n + (fifty - n)) = rises n (fifty - n) in
     let l : reach (n + (fifty - n)) ≤ room = rw add-sub_of_le last in

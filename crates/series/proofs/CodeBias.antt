@@ -1,12 +1,16 @@
 -- Biased numbers: order and choice of signed numbers within 2^34 are those of the naturals that they are biased to.
 -- Assumes nothing.
-use mathlib.Core.Path.{◌≡◌}
-use Prim.Native.Nat.{ℕ, ◌+◌, ◌-◌, ◌*◌, ◌≤◌, max, min}
+use mathlib.Core.Path.{◌≡◌, sym, subst, ◌∙◌}
+use Prim.Native.Nat.{ℕ, suc, ◌+◌, ◌-◌, ◌*◌, ◌≤◌, max, min}
 use native.Mathlib.Omega.{arith}
+use lib.Dec.{ltb}
+use mir.Syntax.{w64}
+use mir.Val.{SFits, to_z, of_z}
+use mir.Facts.{to_z-of_z}
 use lib.IntN.{ℤ, pos, negsuc, sub_ℕ}
 use lib.Signed.{◌≤ℤ◌}
 use Rattle.whole.specs.Choose.{greater, lesser}
-use Rattle.whole.proofs.Parts.{plus, minus, Is, own, is_sub}
+use Rattle.whole.proofs.Parts.{plus, minus, Is, own, is_sub, by_test}
 use Rattle.whole.proofs.Order.{le_parts, one_number, of_greater, of_lesser, le-greater_left, le-greater_right, lesser-le_left, lesser-le_right}
 use Rattle.series.specs.Walk.{bias, biased, Room}
 use Rattle.series.proofs.CodeRange.{InBounds}
@@ -57,3 +61,14 @@ biased-lesser y z v w =
     let q = biased-le (lesser y z) z (of_lesser InBounds y z v w) w (lesser-le_right y z) in
     of_lesser (λ (g : ℤ). biased g ≤ biased y → biased g ≤ biased z → min (biased y) (biased z) ≡ biased g) y z
     (λ a b. omega arith) (λ a b. omega arith) p q
+
+-- what is unbiased again fits an i64
+pub unbiased_fits : (n : ℕ) → n ≤ 2 * bias → SFits w64 (sub_ℕ n bias)
+unbiased_fits n h =
+    by_test (SFits w64) (ltb n bias) (negsuc (bias - suc n)) (pos (n - bias))
+    (λ t. record { sfits = omega arith })
+    (λ t. record { sfits = omega arith })
+
+-- a number unbiased again, as it is read back from the bits of an i64
+pub unbiased_back : (r : ℤ) (b : ℕ) → r ≡ sub_ℕ b bias → b ≤ 2 * bias → to_z w64 (of_z w64 r) ≡ sub_ℕ b bias
+unbiased_back r b e h = to_z-of_z (subst (SFits w64) (sym e) (unbiased_fits b h)) ∙ e

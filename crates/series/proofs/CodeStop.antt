@@ -30,7 +30,7 @@ module _ (s : Series) {w : Walk} {X n d : ℕ} where
       ∙ sym (ap₂ (λ (low high : ℤ). record { lo = biased low; hi = biased high }) (low_stays h some d k) (high_stays h some d k))
 
 -- sine's are, up to an angle
-spent_by : {X : ℕ} (n : ℕ) → X ≤ last_spent (suc n) → suc n ≤ depths → Spent sine X (suc n)
+pub spent_by : {X : ℕ} (n : ℕ) → X ≤ last_spent (suc n) → suc n ≤ depths → Spent sine X (suc n)
 spent_by {X} n least few = (spent_angles X (suc n) (omega arith) few).1 least
 
 -- so a walk through them has come to its bounds at the depth, or at such an angle

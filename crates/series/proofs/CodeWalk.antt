@@ -23,7 +23,19 @@ begins s X =
     let e : bias + s.term0 X ≡ bias + (0 + s.term0 X) - 0 = omega arith in
     cc (high, e)
 
--- with the divisors of the pair that comes next, where they are n (n + 1) for n = first, first + 2, ..
+-- with the divisors of the pair that comes next, in the arm of its number
+module _ (s : Series) (range : (X : ℕ) → X ≤ T_units → InRange s X) (w : Walk) (d : ℕ) (h : Unfinished s w) (e : w.pairs ≡ d) where
+  pub arm_fits : PairFits w (odd_divisor s d) (even_divisor s d)
+  arm_fits =
+      subst (λ (n : ℕ). PairFits w (odd_divisor s n) (even_divisor s n)) e
+      (pair_fits s w.angle (range w.angle h.top) w.pairs h.fewer w h.at)
+
+  pub arm_next : (t : Walk) → t ≡ deepened w (odd_divisor s d) (even_divisor s d) → t ≡ walk s w.angle (suc w.pairs)
+  arm_next t f =
+      paired s w.angle (range w.angle h.top) w.pairs h.fewer w h.at t
+      (f ∙ ap (λ (n : ℕ). deepened w (odd_divisor s n) (even_divisor s n)) (sym e))
+
+-- the same where the divisors are n (n + 1) for n = first, first + 2, ..
 module _ {s : Series} (range : (X : ℕ) → X ≤ T_units → InRange s X) (first : ℕ) (odd : (d : ℕ) → odd_divisor s d ≡ odd_from first d)
     (even : (d : ℕ) → even_divisor s d ≡ even_from first d) {w : Walk} (h : Unfinished s w) where
   pub next_fits : PairFits w (odd_from first w.pairs) (even_from first w.pairs)
@@ -41,6 +53,14 @@ module _ (s : Series) (w : Walk) (X d : ℕ) (e : w ≡ walk s X d) where
 
   pub onward : (t : Walk) → t ≡ walk s w.angle (suc w.pairs) → t ≡ walk s X (suc d)
   onward t f = f ∙ ap (λ (v : Walk). walk s v.angle (suc v.pairs)) e
+
+  -- a walk says itself how far it is
+  pub own_pairs : w ≡ walk s X w.pairs
+  own_pairs = e ∙ ap (walk s X) (sym (ap (λ (v : Walk). v.pairs) e))
+
+  -- and of which angle it is
+  pub walked_own : w ≡ walk s w.angle w.pairs
+  walked_own = subst (λ (v : Walk). v ≡ walk s v.angle v.pairs) (sym e) refl
 
 -- the bounds that a walk has come to
 pub bounds : (s : Series) (w : Walk) (X d : ℕ) → 1 ≤ d → w ≡ walk s X d →

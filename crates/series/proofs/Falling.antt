@@ -57,6 +57,15 @@ module _ (s : Series) (X : ℕ) (fall : TermsFall s X) where
   unfolding same num
   pair n = omega (arith, mul-le-mul_left (num s X (suc n)) (fall n))
 
+  -- S_n against S_(n+2)
+  pub falling : (n : ℕ) → Onward (even n) (S s X n *ℤ pos (ratio s (suc n) * ratio s (suc (suc n)))) (S s X (suc (suc n)))
+  falling n =
+      let r = ratio s (suc n) * ratio s (suc (suc n)) in
+      onward (even n) (S s X n *ℤ pos r) (S s X (suc (suc n))) (r * same s X n) (r * other s X n)
+      (same s X (suc (suc n))) (other s X (suc (suc n)))
+      (parted_mul (even n) (S s X n) (same s X n) (other s X n) r (S_parts s X n))
+      (rw twice at (S_parts s X (suc (suc n)))) (pair n)
+
   pub far_parts : (n j m : ℕ) → m ≡ n + 2 * j →
       den s n * same s X m + den s m * other s X n ≤ den s n * other s X m + den s m * same s X n
   unfolding den

@@ -1,5 +1,5 @@
 -- What the loop over the terms keeps, of either kind: the last term and the sum up to it, and that they fit. Assumes nothing.
-use mathlib.Core.Path.{◌≡◌, refl, sym, ap₂, ◌∙◌}
+use mathlib.Core.Path.{◌≡◌, refl, sym, ap₂, subst, ◌∙◌}
 use mathlib.Core.Bool.{Bool, true, false}
 use Prim.Native.Nat.{ℕ, zero, suc, ◌+◌, ◌*◌, ◌≤◌}
 use native.Mathlib.Omega.{arith}
@@ -12,7 +12,8 @@ use Rattle.series.specs.Walk.{TermFits}
 use Rattle.series.proofs.TermLimits.{Q_order, Q_within}
 use Rattle.series.proofs.OfSine.{u_within, l_within}
 use Rattle.sinh.specs.Sinh.{last, total}
-use Rattle.sinh.specs.Adding.{square, terms}
+use Rattle.sinh.specs.Adding.{square, terms, added_to}
+use Rattle.sinh.specs.declared.Added.{Added}
 
 -- the last term that was added is number n
 pub record Adding (above : Bool) (X n term sum : ℕ) : Type 0 where
@@ -70,3 +71,10 @@ module _ (X : ℕ) (h : X ≤ X_top) where
       unfolding total
       next_adds =
           rw follows (record { term_is = is_next; sum_is = ap₂ (λ (m n : ℕ). m + n) a.sum_is is_next })
+
+-- where the loop ends the last term has been added
+pub all-added : {above : Bool} {X k term sum : ℕ} → Adding above X k term sum → k ≤ last → last ≤ k
+    → ◌≡◌ {A = Added} record { term = term; sum = sum } (added_to above X last)
+all-added {above} {X} {k} {term} {sum} a few h =
+    let e : k ≡ last = omega arith in
+    subst (λ (n : ℕ). ◌≡◌ {A = Added} record { term = term; sum = sum } (added_to above X n)) e (simp (a.term_is, a.sum_is))

@@ -1,6 +1,6 @@
 -- An estimate that passes its check has an exact product, which is rounded down and up; the two differ by one at most, and
 -- neither is above T. Assumes nothing.
-use Rattle.std.proofs.Common.{◌≡◌, ℕ, ◌*◌, ◌<◌, ◌≤◌, false, T, [], ◌∷◌, subst, le_of_eq, le_antisymm, arith, lit≤}
+use Rattle.std.proofs.Common.{◌≡◌, refl, ℕ, ◌*◌, ◌<◌, ◌≤◌, false, T, [], ◌∷◌, subst, le_of_eq, le_antisymm, arith, lit≤}
 use lib.Ieee.{Float, binary64, mul, fits}
 use lib.Ieee.Positive.{den, den_pos}
 use Rattle.std.specs.Prelude.{Ok}
@@ -9,12 +9,18 @@ use Rattle.whole.proofs.Round.{down_le, lt-down, le_up, up_lt, down-le-up, up_wh
 use Rattle.grid.specs.Grid.{T_units}
 use Rattle.grid.specs.declared.codes.Refusal.{Refusal}
 use Rattle.grid.specs.declared.codes.Refusal.TheVariants.{BadEstimate}
+use Rattle.grid.specs.Codes.{allowed}
 use Rattle.grid.proofs.FirstCode.{made}
-use Rattle.units.specs.Units.{product, floor_and_ceiling, range_check, estimate_check, coded_estimate}
+use Rattle.units.specs.Units.{product, floor_and_ceiling, coded_units, range_check, estimate_check, coded_estimate}
 use Rattle.units.specs.Exact.{radian, Value, RoundedUpTo, Rounded}
 use Rattle.units.specs.Limits.{UnitsUpTo, UnitsIn}
 use Rattle.units.specs.declared.Units.{Units}
 use Rattle.units.proofs.Range.{passed_in_range, floor_fits, ceiling_fits, product_value}
+
+-- a number in units is an answer by one check
+pub by_check : (x : Float) (limit : ℕ) (code : Refusal)
+    → coded_units x limit code ≡ allowed (range_check x limit code ∷ []) (floor_and_ceiling x)
+by_check x limit code = refl
 
 -- any number up to its limit
 pub range_fits : (x : Float) (limit : ℕ) (code : Refusal) → (range_check x limit code).fails ≡ false → UnitsUpTo limit (floor_and_ceiling x)

@@ -1,5 +1,6 @@
--- Tests as facts: when two tests are one, when a comparison is a test, and both and either of two. Assumes nothing.
-use mathlib.Core.Path.{◌≡◌, refl, subst}
+-- Tests as facts: when two tests are one, when a comparison is a test, branches as a conjunction, and both and either of two.
+-- Assumes nothing.
+use mathlib.Core.Path.{◌≡◌, refl, sym, ap, subst, ◌∙◌}
 use mathlib.Core.Bool.{Bool, true, false, not, ◌&&◌, ◌||◌}
 use mathlib.Core.Logic.{◌⊎◌, inl, inr, ◌↔◌}
 use Prim.Native.Nat.{ℕ, ◌≤◌}
@@ -31,6 +32,14 @@ fails false f = refl
 pub not_failed : (t : Bool) → (T (not t) → ⊥) → T t
 not_failed true f = tt
 not_failed false f = f tt
+
+-- the first test passed, and the second is the answer
+pub then_and : (a b : Bool) {r : Bool} → a ≡ true → r ≡ b → r ≡ (a && b)
+then_and a b p q = q ∙ sym (ap (λ (t : Bool). t && b) p)
+
+-- the first test failed
+pub else_and : (a b : Bool) → a ≡ false → false ≡ (a && b)
+else_and a b p = sym (ap (λ (t : Bool). t && b) p)
 
 -- both tests, and either
 pub both_parts : (p q : Bool) → T (p && q) → T p × T q

@@ -1,16 +1,19 @@
 -- The sizes of signed numbers: how a sum and a sign change them, and that numbers with room fit an i64, where what is read is
 -- what was written. Assumes nothing.
-use mathlib.Core.Path.{◌≡◌, refl}
-use mathlib.Core.Bool.{Bool, true, false, not}
-use Prim.Native.Nat.{ℕ, zero, suc, ◌+◌, ◌≤◌}
+use mathlib.Core.Path.{◌≡◌, refl, sym, ap, ◌∙◌}
+use mathlib.Core.Bool.{Bool, true, false, not, true≢false}
+use Prim.Native.Nat.{ℕ, zero, suc, ◌+◌, ◌≤◌, ◌<◌, zero-le}
+use borrow.Author.Tests.{le-ltb}
 use native.Mathlib.Omega.{arith}
 use lib.IntN.{ℤ, pos, negsuc, neg_ℤ, nat_abs, ◌+ℤ◌, ◌-ℤ◌}
-use lib.Signed.{mag}
-use mir.Syntax.{w64}
+use lib.Signed.{mag, lt_z, le_z, non_neg, nat_abs-le}
+use lib.Dec.{T, leb, le→leb}
+use mir.Syntax.{w32, w64}
 use mir.Val.{SFits, to_z, of_z}
 use mir.Facts.{to_z-of_z}
 use Rattle.whole.specs.Sign.{signed_by, negative}
 use Rattle.whole.specs.Room.{Roomy}
+use Rattle.whole.proofs.Bools.{passes}
 use Rattle.whole.proofs.Parts.{plus, minus, Is, own, is_add}
 
 parts_size : (z : ℤ) → nat_abs z ≡ plus z + minus z
@@ -47,12 +50,17 @@ roomy_sign plus {z} h = record { size = let a = h.size in omega (arith, size_sig
 pub roomy_neg : {z : ℤ} → Roomy z → Roomy (neg_ℤ z)
 roomy_neg h = roomy_sign false h
 
+-- 0 has room
+pub nothing : Roomy (pos 0)
+nothing = record { size = omega arith }
+
 -- a sum of two of them fits, and so does a difference, which is the sum with a sign
 pub sum_fits : {y z : ℤ} → Roomy y → Roomy z → SFits w64 (y +ℤ z)
 sum_fits {y} {z} h k =
     record { sfits = let a = h.size in let b = k.size in omega (arith, mag_size (y +ℤ z), size_add y z) }
 
-roomy_fits : {z : ℤ} → Roomy z → SFits w64 z
+-- and so does one of them
+pub roomy_fits : {z : ℤ} → Roomy z → SFits w64 z
 roomy_fits {z} h = record { sfits = let a = h.size in omega (arith, mag_size z) }
 
 -- ---- an i64 is held as its bits: what is read there is the number that was written
@@ -69,8 +77,34 @@ held_sum h k = rw (read h, read k) (let f = sum_fits h k in (f, to_z-of_z f))
 pub held_less : {y z : ℤ} → Roomy y → Roomy z → Held (to_z w64 (of_z w64 y) -ℤ to_z w64 (of_z w64 z)) (y -ℤ z)
 held_less h k = rw (read h, read k) (let f = sum_fits h (roomy_neg k) in (f, to_z-of_z f))
 
+-- a number of size below 2^31 fits an i32
+pub narrow_fits : {z : ℤ} → nat_abs z < 2147483648 → SFits w32 z
+narrow_fits {z} h = record { sfits = omega (arith, mag_size z) }
+
+-- an i32 that is widened has room, and keeps its number
+pub roomy_32 : {z : ℤ} → SFits w32 z → Roomy z
+roomy_32 {z} f = record { size = omega (arith, nat_abs-le z f.sfits) }
+
+pub widened : {z : ℤ} → SFits w32 z → to_z w64 (of_z w64 (to_z w32 (of_z w32 z))) ≡ z
+widened f = ap (λ (z : ℤ). to_z w64 (of_z w64 z)) (to_z-of_z f) ∙ read (roomy_32 f)
+
 -- ---- the sign
+
+-- the test of the code, z < 0, is the sign
+pub below_zero : (z : ℤ) → lt_z z (pos 0) ≡ negative z
+below_zero (pos n) = le-ltb n 0 zero-le
+below_zero (negsuc n) = refl
 
 pub sized : (z : ℤ) → signed_by (not (negative z)) z ≡ pos (nat_abs z)
 sized (pos n) = refl
 sized (negsuc n) = refl
+
+-- and so is 0 ≤ z, the other way round
+pub from_zero : (z : ℤ) → le_z (pos 0) z ≡ not (negative z)
+from_zero (pos n) = sym (passes (leb 0 n) (le→leb 0 n zero-le))
+from_zero (negsuc n) = refl
+
+-- a number without the sign is a natural
+pub not_negative : (z : ℤ) → negative z ≡ false → T (non_neg z)
+not_negative (pos n) e = tt
+not_negative (negsuc n) e = absurd (true≢false e)

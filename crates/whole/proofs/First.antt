@@ -1,9 +1,9 @@
 -- The first number that passes a test: none before it does, it does itself unless it is past the last, and no other number is so.
 -- Assumes nothing.
 use mathlib.Core.Path.{◌≡◌, subst}
-use mathlib.Core.Bool.{Bool, not}
+use mathlib.Core.Bool.{Bool, true, false, not}
 use mathlib.Core.Logic.{⊎_elim}
-use Prim.Native.Nat.{ℕ, zero, suc, ◌+◌, ◌≤◌, ◌<◌}
+use Prim.Native.Nat.{ℕ, zero, suc, ◌+◌, ◌-◌, ◌≤◌, ◌<◌}
 use native.Mathlib.Omega.{arith}
 use native.Mathlib.Nat.{le_antisymm, eq-or-lt_of_le, lt_of_not-le}
 use lib.Dec.{T, T_not}
@@ -49,3 +49,12 @@ only test i n j k p q = le_antisymm (least j k p q) (least k j q p)
         let t = p.to in
         let h : j < suc k = lt_of_not-le (λ l. T_not (test k) (p.before k q.from l) (q.here (omega arith))) in
         omega arith
+
+-- ---- the search of n numbers, at number i: it ends there, or goes on behind it
+pub stops : (test : ℕ → Bool) (i n : ℕ) → i < n → test i ≡ true → first_from test i (n - i) ≡ i
+unfolding first_from
+stops test i n h e = let l : n - i ≡ suc (n - suc i) = omega arith in rw (l, e)
+
+pub goes : (test : ℕ → Bool) (i n : ℕ) → i < n → test i ≡ false → first_from test i (n - i) ≡ first_from test (suc i) (n - suc i)
+unfolding first_from
+goes test i n h e = let l : n - i ≡ suc (n - suc i) = omega arith in rw (l, e)

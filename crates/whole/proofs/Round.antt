@@ -3,7 +3,7 @@
 use mathlib.Core.Path.{◌≡◌}
 use Prim.Native.Nat.{ℕ, suc, ◌+◌, ◌-◌, ◌*◌, ◌≤◌, ◌<◌}
 use native.Mathlib.Omega.{arith}
-use native.Mathlib.Nat.{div-mul-le_self, lt-div-mul-add, le-div_iff_mul-le, div-lt_iff_lt-mul, le_antisymm, lt_of_lt_of_le, lt_of_not-le, lt_of_mul-lt-mul_right, mul-le-mul_right, mul-pos}
+use native.Mathlib.Nat.{div-mul-le_self, lt-div-mul-add, le-div_iff_mul-le, div-lt_iff_lt-mul, le_antisymm, lt_of_lt_of_le, lt_of_not-le, lt_of_mul-lt-mul_right, mul-le-mul_right, mul-pos, div-div-eq-div-mul}
 use Rattle.whole.specs.Round.{down, up}
 
 -- rounded down, times the divisor: at most what was divided, and less than one divisor short of it
@@ -57,7 +57,10 @@ up_next a d D h =
     let j = up-le_next a d D in
     omega arith
 
--- ---- rounding up twice is rounding up once by the product
+-- ---- dividing twice with the same rounding is dividing once by the product
+
+pub down-down : (a m n : ℕ) → down (down a m) n ≡ down a (m * n)
+down-down a m n = div-div-eq-div-mul a m n
 
 pub up_up : (a m n : ℕ) → 0 < m → 0 < n → up (up a m) n ≡ up a (m * n)
 up_up a m n hm hn = le_antisymm twice once

@@ -11,7 +11,7 @@ use Rattle.series.specs.declared.Walk.{Walk}
 use Rattle.series.proofs.CodeWalk.{onward}
 use Rattle.orbit.specs.Cell.{orbit_at}
 use Rattle.ends.specs.Corner.{Corner, one_mean, corner_of, at_depth, said}
-use Rattle.ends.proofs.CodeTest.{own_bound, at_walk, least_corner, most_corner, said_some, said_none, bound_in, least_found, ruled_out, none_to, none_at, refused_spent}
+use Rattle.ends.proofs.CodeTest.{own_bound, at_walk, least_corner, most_corner, said_some, said_none, bound_in, least_found, none_later, none_to, none_at, none_spent}
 use Rattle.ends.proofs.settling.walked.Goals as goal
 
 -- a walk that has come one pair further, of those that are asked for
@@ -60,8 +60,8 @@ returns-in-Some g c =
     let s = said_at g.S.Side.upper c.args.m c.args.floor c.args.ceiling c.args.x c.further-w.result c.at-least.ensures c.at-most.ensures c.bounds-own.ensures c.at_depth.ensures in
     let e = said_some _ s c.in-Some.is in
     settled _ c.then_some.ensures (omega arith)
-    (λ f. least_found _ t.angle _ _ t.at t.few _ _ l.1 e.0 (e.1 ∙ f) _ t.within t.deep)
-    (λ f. ruled_out _ t.angle _ _ t.at t.few _ _ e.0 (e.1 ∙ f) _ t.within t.deep)
+    (λ f. least_found _ t.angle _ _ t.at t.few _ _ l.1 (e.1 ∙ f) _ t.within)
+    (λ f. none_later _ t.angle _ _ t.at t.few _ _ e.0 (e.1 ∙ f) _ t.within t.deep)
 
 pub loop-done-preserved : goal.loop-done-preserved
 loop-done-preserved g c =
@@ -77,7 +77,7 @@ returns-then-spent g c =
     let l = c.loop-done.invariant in
     let t = turn c.args.x _ l.0 c.loop-done-test.true c.further-w.ensures c.begin-w.ensures.top c.depth.invariant c.depth.view_is in
     let s = said_at g.S.Side.upper c.args.m c.args.floor c.args.ceiling c.args.x c.further-w.result c.at-least.ensures c.at-most.ensures c.bounds-own.ensures c.at_depth.ensures in
-    refused_spent _ t.angle _ _ t.at t.few _ _ (said_none _ s c.in_default.is) (sym c.spent.ensures ∙ c.if-spent.true) _ t.within
+    none_spent _ t.angle _ _ t.at t.few _ _ (said_none _ s c.in_default.is) (sym c.spent.ensures ∙ c.if-spent.true) _ t.within
 
 pub returns-after-loop-done : goal.returns-after-loop-done
 returns-after-loop-done g c =

@@ -33,8 +33,8 @@ left g c =
           at_spent s (spent_walk s _ _ _ c.loop.invariant (sym w.spent.ensures ∙ w.if-spent.true)) (omega arith) (omega arith) c.loop.invariant
     ]
 
-pub best-requires : goal.best-requires
-best-requires g c = small_bounds g.Self.Series.series _ _ c.begin.ensures.range (omega (arith, c.d.view_is, c.d.invariant.few)) (left g c)
+pub bounds-requires : goal.bounds-requires
+bounds-requires g c = small_bounds g.Self.Series.series _ _ c.begin.ensures.range (omega (arith, c.d.view_is, c.d.invariant.few)) (left g c)
 
 pub returns-clause-value : goal.returns-clause-value
-returns-clause-value g c = c.best.ensures ∙ left g (goal.at.returns-clause-value g c).Left-loop
+returns-clause-value g c = c.bounds.ensures ∙ left g (goal.at.returns-clause-value g c).Left-loop

@@ -56,32 +56,32 @@ came_5 c =
     rw (← c.d.view_is)
     (at_depth_lem sine c.d.invariant.some (omega (arith, c.d.invariant.some, c.d.invariant.few)) (after_5 c.begin.ensures.at c.further-w.ensures c.further-w-2.ensures c.further-w-3.ensures c.further-w-4.ensures c.further.ensures))
 
-pub best-requires : goal.best-requires
-best-requires c = small_bounds sine _ _ c.begin.ensures.range (omega (arith, c.d.view_is, c.d.invariant.few)) (came_1 c)
+pub bounds-requires : goal.bounds-requires
+bounds-requires c = small_bounds sine _ _ c.begin.ensures.range (omega (arith, c.d.view_is, c.d.invariant.few)) (came_1 c)
 
 pub returns-then-n-eq1-clause-value : goal.returns-then-n-eq1-clause-value
-returns-then-n-eq1-clause-value c = c.best.ensures ∙ came_1 (goal.at.returns-then-n-eq1-clause-value c).Joined-then-n-eq1
+returns-then-n-eq1-clause-value c = c.bounds.ensures ∙ came_1 (goal.at.returns-then-n-eq1-clause-value c).Joined-then-n-eq1
 
-pub best-requires-then-n-eq2 : goal.best-requires-then-n-eq2
-best-requires-then-n-eq2 c = small_bounds sine _ _ c.begin.ensures.range (omega (arith, c.d.view_is, c.d.invariant.few)) (came_2 c)
+pub bounds-requires-then-n-eq2 : goal.bounds-requires-then-n-eq2
+bounds-requires-then-n-eq2 c = small_bounds sine _ _ c.begin.ensures.range (omega (arith, c.d.view_is, c.d.invariant.few)) (came_2 c)
 
 pub returns-then-n-eq2-clause-value : goal.returns-then-n-eq2-clause-value
-returns-then-n-eq2-clause-value c = c.best-then-n-eq2.ensures ∙ came_2 (goal.at.returns-then-n-eq2-clause-value c).Joined-then-n-eq2
+returns-then-n-eq2-clause-value c = c.bounds-then-n-eq2.ensures ∙ came_2 (goal.at.returns-then-n-eq2-clause-value c).Joined-then-n-eq2
 
-pub best-requires-then-n-eq3 : goal.best-requires-then-n-eq3
-best-requires-then-n-eq3 c = small_bounds sine _ _ c.begin.ensures.range (omega (arith, c.d.view_is, c.d.invariant.few)) (came_3 c)
+pub bounds-requires-then-n-eq3 : goal.bounds-requires-then-n-eq3
+bounds-requires-then-n-eq3 c = small_bounds sine _ _ c.begin.ensures.range (omega (arith, c.d.view_is, c.d.invariant.few)) (came_3 c)
 
 pub returns-then-n-eq3-clause-value : goal.returns-then-n-eq3-clause-value
-returns-then-n-eq3-clause-value c = c.best-then-n-eq3.ensures ∙ came_3 (goal.at.returns-then-n-eq3-clause-value c).Joined-then-n-eq3
+returns-then-n-eq3-clause-value c = c.bounds-then-n-eq3.ensures ∙ came_3 (goal.at.returns-then-n-eq3-clause-value c).Joined-then-n-eq3
 
-pub best-requires-then-n-eq4 : goal.best-requires-then-n-eq4
-best-requires-then-n-eq4 c = small_bounds sine _ _ c.begin.ensures.range (omega (arith, c.d.view_is, c.d.invariant.few)) (came_4 c)
+pub bounds-requires-then-n-eq4 : goal.bounds-requires-then-n-eq4
+bounds-requires-then-n-eq4 c = small_bounds sine _ _ c.begin.ensures.range (omega (arith, c.d.view_is, c.d.invariant.few)) (came_4 c)
 
 pub returns-then-n-eq4-clause-value : goal.returns-then-n-eq4-clause-value
-returns-then-n-eq4-clause-value c = c.best-then-n-eq4.ensures ∙ came_4 (goal.at.returns-then-n-eq4-clause-value c).Joined-then-n-eq4
+returns-then-n-eq4-clause-value c = c.bounds-then-n-eq4.ensures ∙ came_4 (goal.at.returns-then-n-eq4-clause-value c).Joined-then-n-eq4
 
-pub best-requires-2 : goal.best-requires-2
-best-requires-2 c = small_bounds sine _ _ c.begin.ensures.range (omega (arith, c.d.view_is, c.d.invariant.few)) (came_5 c)
+pub bounds-requires-2 : goal.bounds-requires-2
+bounds-requires-2 c = small_bounds sine _ _ c.begin.ensures.range (omega (arith, c.d.view_is, c.d.invariant.few)) (came_5 c)
 
 pub returns-clause-value : goal.returns-clause-value
-returns-clause-value c = c.best-2.ensures ∙ came_5 (goal.at.returns-clause-value c).After-further
+returns-clause-value c = c.bounds-2.ensures ∙ came_5 (goal.at.returns-clause-value c).After-further
