@@ -3,7 +3,7 @@
 
 ghost use Rattle.std.specs.Prelude.{◌≡◌, ◌≤◌, true, false};
 ghost use Rattle.enclosure.specs.Halving.{last_bracket, searched};
-ghost use Rattle.enclosure.specs.Enclosure.{enclosure_known, enclosure_answer, enclosure_rule};
+ghost use Rattle.enclosure.specs.Enclosure.{refusal, enclosure_known, enclosure_answer, enclosure_rule};
 ghost use Rattle.enclosure.specs.Moves.{moves_p, enclosed_by};
 
 use ends::Tested;
@@ -18,6 +18,16 @@ pub struct Enclosure {
     pub code: u32,
     pub lower: i32,
     pub upper: i32,
+}
+
+// Nothing but a code.
+pub fn refused(code: u32) -> Enclosure
+    ensures { result ≡ refusal code }
+{
+    Enclosure {
+        code,
+        ..Enclosure::default()
+    }
 }
 
 // The ends that the searches find of what is posed.
@@ -101,10 +111,7 @@ impl From<Result<Posed<Found>, Refusal>> for Enclosure {
                     upper: orbit::mirror_angle(high, mirrored),
                 }
             }
-            Err(refusal) => Enclosure {
-                code: refusal.code(),
-                ..Enclosure::default()
-            },
+            Err(refusal) => refused(refusal.code()),
         }
     }
 }

@@ -57,7 +57,7 @@ impl TryFrom<FlybyGrid> for Flyby {
 
 // R85: whether x is accepted as an upper end, or as a lower one. Only the bound that the test needs is made.
 #[tactic(auto, unfolding(crate::specs::Ends::end_at), using(crate::proofs::Products::low_product, crate::proofs::Products::high_product))]
-fn accepted(f: Flyby, x: FlybyAngle, upper: bool) -> bool
+pub fn accepted(f: Flyby, x: FlybyAngle, upper: bool) -> bool
     ensures { result ≡ end_at upper f.mean f.shape x }
 {
     let level = grid::ONE * (x.units + f.mean);

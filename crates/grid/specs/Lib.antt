@@ -4,3 +4,4 @@ pub mod Make
 pub mod Refuses
 pub mod Limits
 pub mod Flyby
+pub mod Messages

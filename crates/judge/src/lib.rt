@@ -1,7 +1,7 @@
 // The judge of a claim: does Kepler's equation have its root within N units of an estimate?
 #![tactic(auto)]
 
-ghost use Rattle.std.specs.Prelude.{◌≡◌, ◌≤◌};
+ghost use Rattle.std.specs.Prelude.{◌≡◌, ◌≤◌, ⊤};
 ghost use Rattle.grid.specs.Grid.{depths};
 ghost use Rattle.grid.specs.Limits.{DepthIn};
 ghost use Rattle.units.specs.Limits.{UnitsUpTo};
@@ -15,6 +15,7 @@ use ends::Tested;
 use grid::codes::Refusal;
 use grid::{Angle, Depth, codes};
 use orbit::pose::{Given, Problem};
+use std::alloc::AllocError;
 use std::marker::Model;
 use units::Units;
 
@@ -147,7 +148,6 @@ impl From<Result<Decision, Refusal>> for Settled {
 
 // A claim whose numbers are all within their limits: that the root of what is tested lies within a tolerance of an estimate, which
 // is known in whole units.
-#[derive(Drop)]
 pub struct Case<P: Tested> {
     pub tested: P,
     pub units: Units,
@@ -155,6 +155,18 @@ pub struct Case<P: Tested> {
     ghost within: { UnitsUpTo P.TOP units },
     ghost tried: { DepthIn (P.last tested) },
 }
+
+impl<P: Tested> Clone for Case<P> {
+    ghost is_clone = { λ k r. r ≡ k };
+
+    ghost is_infallible = { λ _. ⊤ };
+
+    fn clone(&self) -> Result<Case<P>, AllocError> {
+        Ok(*self)
+    }
+}
+
+impl<P: Tested> Copy for Case<P> {}
 
 impl<P: Tested> Case<P> {
     // R43, of the reach p to q of R42: the least depth that confirms.

@@ -6,6 +6,7 @@ ghost use Rattle.whole.specs.Room.{Roomy};
 ghost use Rattle.orbit.specs.Mirror.{mirror, mirror_end};
 
 use grid::Angle;
+pub use pose::{Cell, Problem};
 
 pub mod pose;
 

@@ -1,6 +1,7 @@
 // R1, R60: the ways to pose a problem, and what is posed by them.
 ghost use Rattle.std.specs.Prelude.{◌≡◌};
 ghost use Rattle.orbit.specs.Given as ways;
+ghost use Rattle.orbit.specs.Cell.{grid_cell};
 ghost use Rattle.orbit.specs.Given.{coded_cell, coded_problem};
 
 use grid::codes::Refusal;
@@ -25,6 +26,35 @@ impl Model for Cell {
     ghost invariant = { λ c. cells.CellIn (record { m = c.m; a = c.a }) };
 
     ghost inverse = { λ c. record { m = c.m; a = c.a } };
+}
+
+// M and A as they are in whole units, beyond a cell's limits too.
+#[derive(Clone, Copy, Debug, PartialEq, Eq)]
+pub struct AnyCell {
+    pub m: Units,
+    pub a: Units,
+}
+
+impl Model for AnyCell {
+    ghost use Rattle.orbit.specs.Cell as cells;
+
+    ghost Value = { cells.Cell };
+
+    ghost view = { λ c. record { m = c.m; a = c.a } };
+
+    ghost inverse = { λ c. record { m = c.m; a = c.a } };
+}
+
+impl Cell {
+    // Of whole numbers of units, whichever they are.
+    pub fn on_grid(m: u32, a: u32) -> AnyCell
+        ensures { result ≡ grid_cell m a }
+    {
+        AnyCell {
+            m: Units::from(u64::from(m)),
+            a: Units::from(u64::from(a)),
+        }
+    }
 }
 
 // A cell and a depth: what end tests, searches and the judge are asked about.
@@ -62,13 +92,15 @@ impl Given for Grid {
     ghost given = { λ g. ways.grid g.m g.a };
 
     fn pose(self) -> Result<Posed<Cell>, Refusal> {
-        let mean = codes::limited(whole::size(self.m), Angle::H, Refusal::BadM)?;
-        let shape = Eccentricity::try_from(self.a)?;
-        let m = Units::from(u64::from(mean));
-        let a = Units::from(shape.units);
+        let size = codes::limited(whole::size(self.m), Angle::H, Refusal::BadM)?;
+        Eccentricity::try_from(self.a)?;
+        let known = Cell::on_grid(size, self.a);
         Ok(Posed {
             mirrored: whole::negative(self.m),
-            of: Cell { m, a },
+            of: Cell {
+                m: known.m,
+                a: known.a,
+            },
         })
     }
 }

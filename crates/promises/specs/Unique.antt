@@ -6,6 +6,7 @@ use Rattle.whole.specs.Sign as sign
 use Rattle.whole.specs.Sign.{signed_by}
 use Rattle.little.specs.LittleEndian.{twos_complement}
 use Rattle.grid.specs.Codes as codes
+use Rattle.grid.specs.Messages.{refusal_text}
 use Rattle.grid.specs.Make.{angle_up_to, coded_angle, coded_signed, coded_flyby_angle, coded_eccentricity, coded_depth}
 use Rattle.grid.specs.declared.codes.Refusal.{Refusal}
 use Rattle.series.specs.Terms.{Series}
@@ -15,6 +16,7 @@ use Rattle.series.specs.declared.Walk.{Walk}
 use Rattle.series.specs.declared.Bounds.{Bounds}
 use Rattle.series.specs.Asked.{asked_for, biased_bounds, unbiased, bounds_answer}
 use Rattle.series.specs.declared.Asked.{Asked}
+use Rattle.series.specs.declared.Best.{Best}
 use Rattle.series.specs.declared.Biased.{Biased}
 use Rattle.series.specs.declared.Interval.{Interval}
 use Rattle.cosine.specs.Cosine.{cosine_rule}
@@ -62,6 +64,7 @@ use Rattle.step.specs.declared.Outcome.{Outcome}
 use Rattle.step.specs.declared.JudgedStep.{JudgedStep}
 use Rattle.sinh.specs.Sinh as sinh
 use Rattle.sinh.specs.Entry.{sinh_rule}
+use Rattle.flyby.specs.Ends as flybys
 use Rattle.flyby.specs.Entry as flyby
 use Rattle.flyby.specs.Posed.{Flyby, coded_flyby}
 use Rattle.flyby_enclosure.specs.Enclosure as flyby_enclosure
@@ -128,11 +131,12 @@ pub record Unique : Type 1 where
       → OneResult (λ (r : Result Units R). r ≡ coded_units value limit refusal)
   pub units_of : (n : ℕ) → OneResult (λ (r : Units). r ≡ exactly n)
   pub is_below_zero : (value : Float) → OneResult (λ (r : Bool). r ≡ is_below_zero value)
-  -- the functions that crates share: the program's and the batch's, a number within its limits, what bounds are asked for, where a
-  -- walk begins, what it comes to and whether its terms are spent, both lows, the hyperbolic sine's bounds, the clamps into 0 to a
-  -- top, the depth asked for, by any tests both searches and what is decided, answers as C has them, the rotations, a verdict's
-  -- number, signs and the mirror; and what the definitions say that stand behind them: the code of two lists of checks, a walk's
-  -- bounds, a cell of the grid, an end's flag, an enclosure's refusal. A `from` is named by what it makes: `end_of` makes an End
+  -- the functions that crates share: the program's and the batch's, a number within its limits, a refusal's code and its words, what
+  -- bounds are asked for, where a walk begins, what it comes to and whether its terms are spent, both lows, the hyperbolic sine's
+  -- bounds, a cell of the grid, the clamps into 0 to a top, the depth asked for, a flyby's test, by any tests both searches and what
+  -- is decided, answers as C has them, an enclosure's refusal, the rotations, a verdict's number, signs and the mirror; and what the
+  -- definitions say that stand behind them: the code of two lists of checks, an end's flag. A `from` is named by what it makes:
+  -- `end_of` makes an End
   pub answer_file : (input before : List ℕ) → OneResult (FileAllows input before)
   pub judge_records : (form : Form) (claims before : List ℕ) → OneResult (RecordsAllow form claims before)
   pub limited : (R : Type 0) (n limit : ℕ) (refusal : R)
@@ -140,10 +144,11 @@ pub record Unique : Type 1 where
   pub spanned : (R : Type 0) (n least limit : ℕ) (refusal : R)
       → OneResult (λ (r : Result ℕ R). r ≡ cond (codes.or (ltb n least) (ltb limit n)) (Err refusal) (Ok n))
   pub code : (refusal : Refusal) → OneResult (λ (r : ℕ). r ≡ codes.number (codes.failed refusal))
+  pub message : (refusal : Refusal) → OneResult (λ (r : List ℕ). r ≡ refusal_text refusal)
   pub earlier : (code next : ℕ) → OneResult (λ (r : ℕ). r ≡ codes.earlier code next)
   pub ask : (x depth : ℕ) → OneResult (λ (r : Result Asked Refusal). r ≡ asked_for x depth)
   pub series_begin : (s : Series) (x : ℕ) → OneResult (λ (r : Walk). r ≡ walk s x 0)
-  pub best : (w : Walk) → OneResult (λ (r : Biased). r ≡ record { lo = w.greatest; hi = w.least })
+  pub best : (w : Walk) → OneResult (λ (r : Best). r ≡ record { lo = w.greatest; hi = w.least })
   pub spent : (w : Walk) → OneResult (λ (r : Bool). r ≡ spent_at w)
   pub bounds_at : (s : Series) (x depth : ℕ) → OneResult (λ (r : Biased). r ≡ biased_bounds s x depth)
   pub bound_value : (bound : ℕ) → OneResult (λ (r : ℤ). r ≡ sub_ℕ bound bias)
@@ -163,6 +168,7 @@ pub record Unique : Type 1 where
       → OneResult (λ (r : Decision). r ≡ decided_by (tests_by test top) u n last)
   pub decide : (claim : Claim) → OneResult (λ (r : Result Decision Refusal). r ≡ settled_known claim)
   pub flag : (accepted : Bool) → OneResult (λ (r : End). r ≡ flagged accepted)
+  pub flyby_accepted : (upper : Bool) (m b x : ℕ) → OneResult (λ (r : Bool). r ≡ flybys.end_at upper m b x)
   pub bounds_of : (known : Result Interval Refusal) → OneResult (λ (r : Bounds). r ≡ bounds_answer known)
   pub end_of : (known : Result Bool Refusal) → OneResult (λ (r : End). r ≡ end_answer known)
   pub judged_of : (known : Result Decision Refusal) → OneResult (λ (r : Judged). r ≡ judged_answer known)

@@ -129,6 +129,13 @@ pub struct Walk {
     pub least: u64,
 }
 
+// The best bounds of a walk, biased.
+#[derive(Clone, Copy)]
+pub struct Best {
+    pub lo: u64,
+    pub hi: u64,
+}
+
 const ROUND: u64 = grid::ONE - 1;
 
 // n / 2^28, rounded up where the bound is to lie above, and else down.
@@ -198,16 +205,25 @@ impl Walk {
         }
     }
 
-    // The bounds that it has come to.
-    fn best(self) -> Biased
+    // The bounds that it has come to, whatever its numbers are.
+    pub fn best(self) -> Best
+        ensures { result ≡ record { lo = self.greatest; hi = self.least } }
+    {
+        Best {
+            lo: self.greatest,
+            hi: self.least,
+        }
+    }
+
+    // The same, of a walk of a series: they are within their limits.
+    fn bounds(self) -> Biased
         requires { (self.greatest ≤ 2 * bias) × (self.least ≤ 2 * bias) }
         ensures { result ≡ record { lo = self.greatest; hi = self.least } }
     {
+        let best = self.best();
         Biased {
-            lo: Bound {
-                biased: self.greatest,
-            },
-            hi: Bound { biased: self.least },
+            lo: Bound { biased: best.lo },
+            hi: Bound { biased: best.hi },
         }
     }
 
@@ -246,7 +262,7 @@ pub trait Series {
             }
             w = Self::further(w);
         }
-        w.best()
+        w.bounds()
     }
 }
 

@@ -37,20 +37,20 @@ impl Series for SineTerms {
         let angle = x.units;
         let mut w = Self::further(Self::begin(x));
         if n == 1 || angle <= SPENT_1 {
-            return w.best();
+            return w.bounds();
         }
         w = Self::further(w);
         if n == 2 || angle <= SPENT_2 {
-            return w.best();
+            return w.bounds();
         }
         w = Self::further(w);
         if n == 3 || angle <= SPENT_3 {
-            return w.best();
+            return w.bounds();
         }
         w = Self::further(w);
         if n == 4 || angle <= SPENT_4 {
-            return w.best();
+            return w.bounds();
         }
-        Self::further(w).best()
+        Self::further(w).bounds()
     }
 }

@@ -37,7 +37,7 @@ impl TryFrom<u32> for Method {
 }
 
 // R77: the number of no step, beside those of the methods.
-const NO_STEP: u32 = 3;
+pub const FLAT: u32 = 3;
 
 // R77: the step taken, with the new estimate. Flat hands nothing over.
 #[derive(Clone, Copy, Debug)]
@@ -55,7 +55,7 @@ impl Taken {
         match self {
             Taken::Newton(_) => Method::Newton as u32,
             Taken::Halley(_) => Method::Halley as u32,
-            Taken::Flat => NO_STEP,
+            Taken::Flat => FLAT,
         }
     }
 
@@ -215,9 +215,13 @@ impl Local {
         }
     }
 
+    // No division by zero is made, so that a caller whose processor stops at one is not stopped here.
     fn newton(self, mirrored: bool) -> Taken
         ensures { result ≡ newton_step mirrored self }
     {
+        if self.slope == 0.0 {
+            return Taken::Flat;
+        }
         let y = self.estimate - self.residual / self.slope;
         unless_flat(self.slope, y, mirrored).map_or(Taken::Flat, Taken::Newton)
     }
@@ -226,6 +230,9 @@ impl Local {
         ensures { result ≡ halley_step mirrored self }
     {
         let divisor = 2.0 * self.slope * self.slope - self.residual * self.g;
+        if divisor == 0.0 {
+            return Taken::Flat;
+        }
         let y = self.estimate - 2.0 * self.residual * self.slope / divisor;
         unless_flat(divisor, y, mirrored).map_or(Taken::Flat, Taken::Halley)
     }
