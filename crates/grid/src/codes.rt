@@ -1,7 +1,7 @@
 // R5: why a call is refused, with the code of each reason. R6: of those that apply the first of 7, 8, 9, 1, 2, 3, 10, 4, 5, 6, 15, 21
 // is answered.
 ghost use Rattle.std.specs.Prelude.{◌≡◌, cond, ltb, Ok, Err};
-ghost use Rattle.grid.specs.Codes.{number, failed, or};
+ghost use Rattle.grid.specs.Codes.{number, failed, or, earlier};
 
 use std::error::Error;
 use std::fmt;
@@ -75,4 +75,11 @@ pub fn limited<R: Copy>(n: u32, limit: u32, refusal: R) -> Result<u32, R>
     ensures { result ≡ cond (ltb limit n) (Err refusal) (Ok n) }
 {
     spanned(n, 0, limit, refusal)
+}
+
+// The code of two lists of checks, one after the other, where each has its own.
+pub fn earlier(code: u32, next: u32) -> u32
+    ensures { result ≡ earlier code next }
+{
+    if code == DONE { next } else { code }
 }

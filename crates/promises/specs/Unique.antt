@@ -131,12 +131,11 @@ pub record Unique : Type 1 where
       → OneResult (λ (r : Result Units R). r ≡ coded_units value limit refusal)
   pub units_of : (n : ℕ) → OneResult (λ (r : Units). r ≡ exactly n)
   pub is_below_zero : (value : Float) → OneResult (λ (r : Bool). r ≡ is_below_zero value)
-  -- the functions that crates share: the program's and the batch's, a number within its limits, a refusal's code and its words, what
-  -- bounds are asked for, where a walk begins, what it comes to and whether its terms are spent, both lows, the hyperbolic sine's
-  -- bounds, a cell of the grid, the clamps into 0 to a top, the depth asked for, a flyby's test, by any tests both searches and what
-  -- is decided, answers as C has them, an enclosure's refusal, the rotations, a verdict's number, signs and the mirror; and what the
-  -- definitions say that stand behind them: the code of two lists of checks, an end's flag. A `from` is named by what it makes:
-  -- `end_of` makes an End
+  -- the functions that crates share: the program's and the batch's, a number within its limits, a refusal's code and its words, the
+  -- code of two lists of checks, what bounds are asked for, where a walk begins, what it comes to and whether its terms are spent,
+  -- both lows, the hyperbolic sine's bounds, a cell of the grid, the clamps into 0 to a top, the depth asked for, a flyby's test, by
+  -- any tests both searches and what is decided, answers as C has them, an enclosure's refusal, the rotations, a verdict's number,
+  -- signs and the mirror; and an end's flag, as the definitions have it. A `from` is named by what it makes: `end_of` makes an End
   pub answer_file : (input before : List ℕ) → OneResult (FileAllows input before)
   pub judge_records : (form : Form) (claims before : List ℕ) → OneResult (RecordsAllow form claims before)
   pub limited : (R : Type 0) (n limit : ℕ) (refusal : R)
